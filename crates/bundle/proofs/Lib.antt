@@ -1,0 +1,9 @@
+pub mod DefinitionLaws
+pub mod ExprLaws
+pub mod Forms
+pub mod HeadLaws
+pub mod RecordLaws
+pub mod Steps
+pub mod Trees
+pub mod TypeLaws
+pub mod TypeTrees
