@@ -28,5 +28,6 @@ compile --crate-type rlib --crate-name serde "$here/standin/serde.rs"
 # cfg test opens the one module of dependency.rs that can see its private
 # functions; no test harness is built.
 compile --crate-type rlib --crate-name layout_oracle \
+  --extern serde --extern serde_derive \
   --cfg test -A explicit_builtin_cfgs_in_flags "$here/src/lib.rs"
-compile --crate-type bin --crate-name oracle "$here/src/main.rs"
+compile --crate-type bin --crate-name oracle --extern layout_oracle "$here/src/main.rs"

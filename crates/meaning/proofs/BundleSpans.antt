@@ -14,9 +14,10 @@ use Rattle.meaning.specs.ReadBundle.{recordBody, opening, readDefinition
 use Rattle.meaning.specs.ReadType.{readTy}
 use Rattle.meaning.specs.ReadExpr.{kind}
 use Rattle.meaning.specs.Reader.{ok, refused, Reader, after, check, many, little}
-use Rattle.meaning.specs.Encoding.{Bytes, bytesOf, typeBytes, definitionBytes, edgeBytes, eachBytes, bundleBytes}
+use Rattle.meaning.specs.Encoding.{Bytes, bundleBytes}
+use Rattle.meaning.proofs.Written.{bytesOf, typeBytes, definitionBytes, edgeBytes, eachBytes, writtenBytes, nameBytes, bundle-written}
 use Rattle.meaning.proofs.Readings.{went, there}
-use Rattle.meaning.proofs.ExprSpans.{Spans, both, byte-spans, number-spans, settle, no}
+use Rattle.meaning.proofs.ExprSpans.{Spans, both, byte-spans, number-spans, name-spans, settle, no}
 use Rattle.meaning.proofs.TypeSpans.{passed, expected, many-spans, type-spans}
 
 module _ (s : List ℕ) (bytes : Bytes s) where
@@ -42,9 +43,9 @@ module _ (s : List ℕ) (bytes : Bytes s) where
       let p = opening-spans 0x61 0 1 0 refl at (o .middle) (o .value) (o .first) in
       let b = o .middle in
       let g = went (readTy 24 s (b + 2)) _ s d n (o .then) in
-      settle (λ (d : Definition) n. Spans s at (0x61 ∷ bytesOf 2 (d .name) ++ typeBytes (d .type)) n) (g .then)
-      (both s at (b + 2) (g .middle) (0x61 ∷ bytesOf 2 (little s b 2)) (typeBytes (g .value))
-      (both s at b (b + 2) (0x61 ∷ []) (bytesOf 2 (little s b 2)) (p .0) (number-spans s bytes 2 b (p .1)))
+      settle (λ (d : Definition) n. Spans s at (0x61 ∷ nameBytes (d .name) ++ typeBytes (d .type)) n) (g .then)
+      (both s at (b + 2) (g .middle) (0x61 ∷ nameBytes (little s b 2)) (typeBytes (g .value))
+      (both s at b (b + 2) (0x61 ∷ []) (nameBytes (little s b 2)) (p .0) (name-spans s bytes b (p .1)))
       (type-spans s bytes 24 (b + 2) (g .middle) (g .value) (g .first)))
 
   -- an edge
@@ -57,20 +58,20 @@ module _ (s : List ℕ) (bytes : Bytes s) where
     where
       parts : (b : ℕ) → Spans s at (0x62 ∷ []) b → b + 5 ≤ length s
           → after (check (leb (getD s (b + 2 + 2) 0) 3) 4 s (b + 2 + 2 + 1)) (λ u t j. ok (record { from = little s b 2; to = little s (b + 2) 2; kind = getD s (b + 2 + 2) 0 }) j) s ≡ ok x n
-          → Spans s at (0x62 ∷ bytesOf 2 (x .from) ++ bytesOf 2 (x .to) ++ x .kind ∷ []) n
+          → Spans s at (0x62 ∷ nameBytes (x .from) ++ nameBytes (x .to) ++ x .kind ∷ []) n
       parts b p h q =
           let c = went (check (leb (getD s (b + 2 + 2) 0) 3) 4 s (b + 2 + 2 + 1)) _ s x n q in
           let t = passed (leb (getD s (b + 2 + 2) 0) 3) 4 s (b + 2 + 2 + 1) (c .value) (c .middle) (c .first) in
-          settle (λ (x : Edge) n. Spans s at (0x62 ∷ bytesOf 2 (x .from) ++ bytesOf 2 (x .to) ++ x .kind ∷ []) n) (c .then)
+          settle (λ (x : Edge) n. Spans s at (0x62 ∷ nameBytes (x .from) ++ nameBytes (x .to) ++ x .kind ∷ []) n) (c .then)
           (rw (t .1)
-          (both s at (b + 2 + 2) (b + 2 + 2 + 1) (0x62 ∷ bytesOf 2 (little s b 2) ++ bytesOf 2 (little s (b + 2) 2)) (getD s (b + 2 + 2) 0 ∷ [])
-          (both s at (b + 2) (b + 2 + 2) (0x62 ∷ bytesOf 2 (little s b 2)) (bytesOf 2 (little s (b + 2) 2))
-          (both s at b (b + 2) (0x62 ∷ []) (bytesOf 2 (little s b 2)) p (number-spans s bytes 2 b (omega arith)))
-          (number-spans s bytes 2 (b + 2) (omega arith)))
+          (both s at (b + 2 + 2) (b + 2 + 2 + 1) (0x62 ∷ nameBytes (little s b 2) ++ nameBytes (little s (b + 2) 2)) (getD s (b + 2 + 2) 0 ∷ [])
+          (both s at (b + 2) (b + 2 + 2) (0x62 ∷ nameBytes (little s b 2)) (nameBytes (little s (b + 2) 2))
+          (both s at b (b + 2) (0x62 ∷ []) (nameBytes (little s b 2)) p (name-spans s bytes b (omega arith)))
+          (name-spans s bytes (b + 2) (omega arith)))
           (byte-spans s bytes (b + 2 + 2) (omega arith))))
 
   -- the header
-  pub header-spans : (at n : ℕ) (h : Header) → readHeader s at ≡ ok h n → Spans s at (0x60 ∷ bytesOf 2 (h .definitions) ++ bytesOf 2 (h .edges) ++ bytesOf 2 (h .current)) n
+  pub header-spans : (at n : ℕ) (h : Header) → readHeader s at ≡ ok h n → Spans s at (0x60 ∷ bytesOf 2 (h .definitions) ++ bytesOf 2 (h .edges) ++ nameBytes (h .current)) n
   unfolding readHeader lookup
   header-spans at n h e =
       let o = went (opening 0x60 s at) _ s h n e in
@@ -79,17 +80,17 @@ module _ (s : List ℕ) (bytes : Bytes s) where
     where
       parts : (b : ℕ) → Spans s at (0x60 ∷ []) b → b + 6 ≤ length s
           → after (check (leb (little s b 2) 256 && leb (little s (b + 2) 2) 1024) 5 s (b + 2 + 2 + 2)) (λ u t j. ok (record { definitions = little s b 2; edges = little s (b + 2) 2; current = little s (b + 2 + 2) 2 }) j) s ≡ ok h n
-          → Spans s at (0x60 ∷ bytesOf 2 (h .definitions) ++ bytesOf 2 (h .edges) ++ bytesOf 2 (h .current)) n
+          → Spans s at (0x60 ∷ bytesOf 2 (h .definitions) ++ bytesOf 2 (h .edges) ++ nameBytes (h .current)) n
       parts b p z q =
           let c = went (check (leb (little s b 2) 256 && leb (little s (b + 2) 2) 1024) 5 s (b + 2 + 2 + 2)) _ s h n q in
           let t = passed (leb (little s b 2) 256 && leb (little s (b + 2) 2) 1024) 5 s (b + 2 + 2 + 2) (c .value) (c .middle) (c .first) in
-          settle (λ (h : Header) n. Spans s at (0x60 ∷ bytesOf 2 (h .definitions) ++ bytesOf 2 (h .edges) ++ bytesOf 2 (h .current)) n) (c .then)
+          settle (λ (h : Header) n. Spans s at (0x60 ∷ bytesOf 2 (h .definitions) ++ bytesOf 2 (h .edges) ++ nameBytes (h .current)) n) (c .then)
           (rw (t .1)
-          (both s at (b + 2 + 2) (b + 2 + 2 + 2) (0x60 ∷ bytesOf 2 (little s b 2) ++ bytesOf 2 (little s (b + 2) 2)) (bytesOf 2 (little s (b + 2 + 2) 2))
+          (both s at (b + 2 + 2) (b + 2 + 2 + 2) (0x60 ∷ bytesOf 2 (little s b 2) ++ bytesOf 2 (little s (b + 2) 2)) (nameBytes (little s (b + 2 + 2) 2))
           (both s at (b + 2) (b + 2 + 2) (0x60 ∷ bytesOf 2 (little s b 2)) (bytesOf 2 (little s (b + 2) 2))
           (both s at b (b + 2) (0x60 ∷ []) (bytesOf 2 (little s b 2)) p (number-spans s bytes 2 b (omega arith)))
           (number-spans s bytes 2 (b + 2) (omega arith)))
-          (number-spans s bytes 2 (b + 2 + 2) (omega arith))))
+          (name-spans s bytes (b + 2 + 2) (omega arith))))
 
   -- the end is the end of the byte string
   pub end-is : (at n : ℕ) (u : Unit {0}) → end s at ≡ ok u n → (n ≡ at) × (length s ≤ at)
@@ -133,24 +134,27 @@ module _ (s : List ℕ) (bytes : Bytes s) where
 joins : (s x y z : List ℕ) → s ≡ (x ++ (y ++ z)) ++ [] → x ++ y ++ z ≡ s
 joins s x y z e = append-assoc x y z ∙ sym (append-nil (x ++ (y ++ z))) ∙ sym e
 
--- a bundle that was read from bytes is written as those bytes
-pub bundle-law : (s : List ℕ) → Bytes s → (b : Bundle) (n : ℕ) → readBundle s ≡ ok b n → bundleBytes b ≡ s
-unfolding readBundle readRecords bundleBytes
-bundle-law s bytes b n e = records (leb (length s) 32768) e
+written-law : (s : List ℕ) → Bytes s → (b : Bundle) (n : ℕ) → readBundle s ≡ ok b n → writtenBytes b ≡ s
+unfolding readBundle readRecords writtenBytes
+written-law s bytes b n e = records (leb (length s) 32768) e
   where
     joined : (h : Header) (r : List Definition × List Edge) (m i : ℕ)
-        → Spans s 0 (0x60 ∷ bytesOf 2 (h .definitions) ++ bytesOf 2 (h .edges) ++ bytesOf 2 (h .current)) m
+        → Spans s 0 (0x60 ∷ bytesOf 2 (h .definitions) ++ bytesOf 2 (h .edges) ++ nameBytes (h .current)) m
         → Spans s m (eachBytes definitionBytes (r .0) ++ eachBytes edgeBytes (r .1)) i × (length (r .0) ≡ h .definitions) × (length (r .1) ≡ h .edges) × (length s ≤ i)
-        → bundleBytes (record { current = h .current; definitions = r .0; edges = r .1 }) ≡ s
+        → writtenBytes (record { current = h .current; definitions = r .0; edges = r .1 }) ≡ s
     joined h r m i p q =
-        let w = both s 0 m i (0x60 ∷ bytesOf 2 (h .definitions) ++ bytesOf 2 (h .edges) ++ bytesOf 2 (h .current)) (eachBytes definitionBytes (r .0) ++ eachBytes edgeBytes (r .1)) p (q .0) in
-        rw (q .1, q .2) (joins s (0x60 ∷ bytesOf 2 (h .definitions) ++ bytesOf 2 (h .edges) ++ bytesOf 2 (h .current)) (eachBytes definitionBytes (r .0)) (eachBytes edgeBytes (r .1)) (rw (drop-of-length-le s (q .3)) at w))
+        let w = both s 0 m i (0x60 ∷ bytesOf 2 (h .definitions) ++ bytesOf 2 (h .edges) ++ nameBytes (h .current)) (eachBytes definitionBytes (r .0) ++ eachBytes edgeBytes (r .1)) p (q .0) in
+        rw (q .1, q .2) (joins s (0x60 ∷ bytesOf 2 (h .definitions) ++ bytesOf 2 (h .edges) ++ nameBytes (h .current)) (eachBytes definitionBytes (r .0)) (eachBytes edgeBytes (r .1)) (rw (drop-of-length-le s (q .3)) at w))
 
-    records : (t : Bool) → cond t (readRecords s 0) (refused 1) ≡ ok b n → bundleBytes b ≡ s
+    records : (t : Bool) → cond t (readRecords s 0) (refused 1) ≡ ok b n → writtenBytes b ≡ s
     records true q =
         let g = went (readHeader s 0) _ s b n q in
         let c = went (readRest (g .value .definitions) (g .value .edges) s (g .middle)) _ s b n (g .then) in
-        settle (λ (b : Bundle) n. bundleBytes b ≡ s) (c .then)
+        settle (λ (b : Bundle) n. writtenBytes b ≡ s) (c .then)
         (joined (g .value) (c .value) (g .middle) (c .middle) (header-spans s bytes 0 (g .middle) (g .value) (g .first))
         (rest-spans s bytes (g .value .definitions) (g .value .edges) (g .middle) (c .middle) (c .value) (c .first)))
     records false q = no q
+
+-- what is read encodes back to the bytes read
+pub bundle-law : (s : List ℕ) → Bytes s → (b : Bundle) (n : ℕ) → readBundle s ≡ ok b n → bundleBytes b ≡ s
+bundle-law s bytes b n e = bundle-written b ∙ written-law s bytes b n e

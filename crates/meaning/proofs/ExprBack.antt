@@ -17,7 +17,7 @@ use Rattle.meaning.specs.Tree.{Expr, literal, fieldRef, sizeof, alignof,
 use Rattle.meaning.specs.Reader.{ok, Reader, little}
 use Rattle.meaning.specs.ReadExpr.{node, body, exprBody, exprAfter, readExpr}
 use Rattle.meaning.specs.Reader.{namesFrom}
-use Rattle.meaning.specs.Encoding.{bytesOf, namesBytes, exprBytes}
+use Rattle.meaning.proofs.Written.{bytesOf, nameBytes, name-two, namesBytes, exprBytes}
 use Rattle.meaning.specs.Within.{Fits, Each, ExprOk, exprDepth}
 use Rattle.meaning.proofs.KindTable.{hit, side}
 use Rattle.meaning.proofs.Readings.{due-ok}
@@ -56,6 +56,14 @@ starts-number s (suc w) v at rest f e =
     let n = starts-number s w (v / 256) (suc at) rest (omega arith) (rw p (b .2)) in
     (omega (arith, b .0, n .0), λ h. omega (arith, n .1 (b .1)))
 
+-- a first name
+pub length-name : (n : ℕ) → length (nameBytes n) ≡ 2
+unfolding nameBytes
+length-name n = refl
+
+pub starts-name : (s : List ℕ) (n at : ℕ) (rest : List ℕ) → Fits 2 n → Starts s at (nameBytes n) rest → (little s at 2 ≡ n) × (at ≤ length s → at + 2 ≤ length s)
+starts-name s n at rest f e = starts-number s 2 n at rest f (rw (name-two n f) at e)
+
 module _ (s : List ℕ) where
   -- a node's kind byte
   pub node-back : {A : Type 0} (g : ℕ → Form → Reader A) (at k : ℕ) (f : Form) (ys : List ℕ) → drop at s ≡ k ∷ ys → formOf k ≡ f → node g s at ≡ g k f s (at + 1)
@@ -69,21 +77,25 @@ module _ (s : List ℕ) where
       let n = starts-number s w v at rest f e in
       rw (due-ok w at s (n .1 h), n .0)
 
+  -- a body that is one name
+  pub name-body-back : (n at : ℕ) (rest : List ℕ) → at ≤ length s → Fits 2 n → Starts s at (nameBytes n) rest → body 2 s at ≡ ok n (at + 2)
+  name-body-back n at rest h f e = body-back 2 n at rest h f (rw (name-two n f) at e)
+
   -- names
   pub names-back : (names : List ℕ) (at : ℕ) (rest : List ℕ) → at ≤ length s → Each (Fits 2) names → Starts s at (namesBytes names) rest → (namesFrom s at (length names) ≡ names) × (at + 2 * length names ≤ length s)
   unfolding namesFrom namesBytes
   names-back [] at rest h f e = (refl, omega arith)
   names-back (x ∷ xs) at rest h f e =
-      let q : drop at s ≡ bytesOf 2 x ++ (namesBytes xs ++ rest) = e ∙ append-assoc (bytesOf 2 x) (namesBytes xs) rest in
-      let n = starts-number s 2 x at (namesBytes xs ++ rest) (f .0) q in
+      let q : drop at s ≡ nameBytes x ++ (namesBytes xs ++ rest) = e ∙ append-assoc (nameBytes x) (namesBytes xs) rest in
+      let n = starts-name s x at (namesBytes xs ++ rest) (f .0) q in
       let l : at + 2 ≤ length s = n .1 h in
-      let t = names-back xs (at + 2) rest l (f .1) (rw (length-bytesOf 2 x) at (follows s at (bytesOf 2 x) (namesBytes xs ++ rest) q)) in
+      let t = names-back xs (at + 2) rest l (f .1) (rw (length-name x) at (follows s at (nameBytes x) (namesBytes xs ++ rest) q)) in
       (rw (n .0, t .0), omega (arith, t .1))
 
 pub length-namesBytes : (names : List ℕ) → length (namesBytes names) ≡ 2 * length names
 unfolding namesBytes
 length-namesBytes [] = refl
-length-namesBytes (x ∷ xs) = length-append (bytesOf 2 x) (namesBytes xs) ∙ rw (length-bytesOf 2 x) (omega (arith, length-namesBytes xs))
+length-namesBytes (x ∷ xs) = length-append (nameBytes x) (namesBytes xs) ∙ rw (length-name x) (omega (arith, length-namesBytes xs))
 
 -- an expression where a level is left is a node
 pub expr-node : (d at : ℕ) (s : List ℕ) → 0 < d → readExpr d s at ≡ node (exprAfter (readExpr (d - 1))) s at
@@ -110,15 +122,15 @@ expr-back s (fieldRef names) o d at rest h e =
     (hit kinds 1 1 (8 + n) tt (lit< tt) (omega (arith, o .0 .0)) (omega (arith, o .0 .1)) ∙ ap (λ (z : ℕ). OfExpr (FieldRef z)) q)
     ∙ rw (due-ok (2 * n) (at + 1) s (t .1), many-names s n (at + 1), t .0) (ap (ok (fieldRef names)) (omega (arith, length-namesBytes names)))
 expr-back s (sizeof x) o d at rest h e =
-    let b = starts-byte s at 0x0D (bytesOf 2 x ++ rest) e in
+    let b = starts-byte s at 0x0D (nameBytes x ++ rest) e in
     expr-node d at s h
-    ∙ node-back s (exprAfter (readExpr (d - 1))) at 0x0D (OfExpr Sizeof) (bytesOf 2 x ++ rest) e (hit kinds 1 2 0x0D tt (lit< tt) (omega arith) (omega arith))
-    ∙ rw (body-back s 2 x (at + 1) rest (omega (arith, b .1)) o (b .2)) (ap (ok (sizeof x)) (omega (arith, length-bytesOf 2 x)))
+    ∙ node-back s (exprAfter (readExpr (d - 1))) at 0x0D (OfExpr Sizeof) (nameBytes x ++ rest) e (hit kinds 1 2 0x0D tt (lit< tt) (omega arith) (omega arith))
+    ∙ rw (name-body-back s x (at + 1) rest (omega (arith, b .1)) o (b .2)) (ap (ok (sizeof x)) (omega (arith, length-name x)))
 expr-back s (alignof x) o d at rest h e =
-    let b = starts-byte s at 0x0E (bytesOf 2 x ++ rest) e in
+    let b = starts-byte s at 0x0E (nameBytes x ++ rest) e in
     expr-node d at s h
-    ∙ node-back s (exprAfter (readExpr (d - 1))) at 0x0E (OfExpr Alignof) (bytesOf 2 x ++ rest) e (hit kinds 1 3 0x0E tt (lit< tt) (omega arith) (omega arith))
-    ∙ rw (body-back s 2 x (at + 1) rest (omega (arith, b .1)) o (b .2)) (ap (ok (alignof x)) (omega (arith, length-bytesOf 2 x)))
+    ∙ node-back s (exprAfter (readExpr (d - 1))) at 0x0E (OfExpr Alignof) (nameBytes x ++ rest) e (hit kinds 1 3 0x0E tt (lit< tt) (omega arith) (omega arith))
+    ∙ rw (name-body-back s x (at + 1) rest (omega (arith, b .1)) o (b .2)) (ap (ok (alignof x)) (omega (arith, length-name x)))
 expr-back s (binary k l r) o d at rest h e =
     let xs = exprBytes l in
     let ys = exprBytes r in

@@ -1,8 +1,8 @@
 -- What was read from bytes is written as those bytes: the string from the start of what was read is what is written,
 -- followed by the string from where reading ended.
-use Prim.Native.Nat.{ℕ, zero, suc, _+_, _-_, _*_, _/_, _%_, _≤_, _<_}
+use Prim.Native.Nat.{ℕ, zero, suc, _+_, _-_, _*_, _/_, _%_, _^_, _≤_, _<_}
 use native.Mathlib.Numerals.{add-one}
-use native.Mathlib.Nat.{add-zero, not-suc-le-zero, le-of-suc-le-suc, eq-or-lt-of-le}
+use native.Mathlib.Nat.{pow-suc, add-zero, not-suc-le-zero, le-of-suc-le-suc, eq-or-lt-of-le}
 use native.Mathlib.Omega.{arith}
 use mathlib.Core.Bool.{Bool, true, _&&_}
 use mathlib.Core.Logic.{_⊎_, ⊎-elim}
@@ -10,7 +10,7 @@ use mathlib.Core.Path.{_≡_, refl, ap, _∙_}
 use mathlib.Core.List.{List, [], _∷_, _++_, append-assoc}
 use lib.ListN.{length, getD, drop}
 use lib.Seq.{drop-cons}
-use lib.Dec.{T, eqb, eqb→eq}
+use lib.Dec.{T, lit<, eqb, eqb→eq}
 use Rattle.meaning.specs.Kinds.{ExprForm}
 use Rattle.meaning.specs.Kinds.{Literal, FieldRef, Sizeof, Alignof, Binary, Unary}
 use Rattle.meaning.specs.Kinds.{Primitive, TypeRef, Struct, Union, Enum, Array, SizeUnion}
@@ -21,7 +21,8 @@ use Rattle.meaning.specs.Tree.{Expr, fieldRef}
 use Rattle.meaning.specs.ReadExpr.{body, readExpr, exprAfter, exprBody, kind}
 use Rattle.meaning.specs.Reader.{ok, refused, Reader, after, due, number, many, little}
 use Rattle.meaning.specs.Reader.{namesFrom}
-use Rattle.meaning.specs.Encoding.{Bytes, bytesOf, namesBytes, exprBytes}
+use Rattle.meaning.specs.Encoding.{Bytes}
+use Rattle.meaning.proofs.Written.{bytesOf, nameBytes, name-two, namesBytes, exprBytes}
 use Rattle.meaning.proofs.Readings.{went, there}
 use Rattle.meaning.proofs.KindTable.{and-0, and-1}
 use Rattle.meaning.proofs.Readings.{many-names}
@@ -88,6 +89,16 @@ module _ (s : List ℕ) (bytes : Bytes s) where
       let l : at < length s = omega arith in
       drop-cons s at 0 l ∙ rw (p, q, e, ← number-spans w (suc at) (omega arith))
 
+  -- a number of w bytes fits them
+  pub little-fits : (w at : ℕ) → little s at w < 256 ^ w
+  unfolding little
+  little-fits zero at = lit< tt
+  little-fits (suc w) at = omega (arith, bytes at, little-fits w (suc at), pow-suc 256 w)
+
+  -- a name
+  pub name-spans : (at : ℕ) → at + 2 ≤ length s → Spans s at (nameBytes (little s at 2)) (at + 2)
+  name-spans at h = rw (name-two (little s at 2) (little-fits 2 at)) (number-spans 2 at h)
+
   -- a body that is one number
   pub body-spans : (w at v n : ℕ) → body w s at ≡ ok v n → Spans s at (bytesOf w v) n
   body-spans w at v n e =
@@ -97,6 +108,15 @@ module _ (s : List ℕ) (bytes : Bytes s) where
       let y : at + w ≡ n = cc in
       rw (← x, ← y) (number-spans w at (t .bound))
 
+  -- a body that is one name
+  pub name-body-spans : (at x n : ℕ) → body 2 s at ≡ ok x n → Spans s at (nameBytes x) n
+  name-body-spans at x n e =
+      let g = went (due 2 s at) _ s x n e in
+      let t = there 2 at s (g .value) (g .middle) (g .first) in
+      let p : little s at 2 ≡ x = cc in
+      let q : at + 2 ≡ n = cc in
+      rw (← p, ← q) (name-spans at (t .bound))
+
   -- names of two bytes each
   pub names-spans : (n at : ℕ) → at + 2 * n ≤ length s → Spans s at (namesBytes (namesFrom s at n)) (at + 2 * n)
   unfolding namesBytes namesFrom
@@ -104,8 +124,8 @@ module _ (s : List ℕ) (bytes : Bytes s) where
   names-spans (suc n) at h =
       let p : at + 2 + 2 * n ≡ at + 2 * suc n = omega arith in
       rw (← p)
-      (both s at (at + 2) (at + 2 + 2 * n) (bytesOf 2 (little s at 2)) (namesBytes (namesFrom s (at + 2) n))
-      (number-spans 2 at (omega arith)) (names-spans n (at + 2) (omega arith)))
+      (both s at (at + 2) (at + 2 + 2 * n) (nameBytes (little s at 2)) (namesBytes (namesFrom s (at + 2) n))
+      (name-spans at (omega arith)) (names-spans n (at + 2) (omega arith)))
 
   -- a kind byte
   pub kind-spans : (at k n : ℕ) → kind s at ≡ ok k n → (k ≡ getD s at 0) × (n ≡ at + 1) × (at < length s)
@@ -146,11 +166,11 @@ module _ (s : List ℕ) (bytes : Bytes s) (inner : Reader Expr) (law : (at n : �
   expr-body-spans k at n e Sizeof a r =
       let g = went (body 2 s at) _ s e n r in
       settle (λ e n. k ∷ drop at s ≡ exprBytes e ++ drop n s) (g .then)
-      (rw (eqb→eq k 0x0D a, ← body-spans s bytes 2 at (g .value) (g .middle) (g .first)))
+      (rw (eqb→eq k 0x0D a, ← name-body-spans s bytes at (g .value) (g .middle) (g .first)))
   expr-body-spans k at n e Alignof a r =
       let g = went (body 2 s at) _ s e n r in
       settle (λ e n. k ∷ drop at s ≡ exprBytes e ++ drop n s) (g .then)
-      (rw (eqb→eq k 0x0E a, ← body-spans s bytes 2 at (g .value) (g .middle) (g .first)))
+      (rw (eqb→eq k 0x0E a, ← name-body-spans s bytes at (g .value) (g .middle) (g .first)))
   expr-body-spans k at n e Binary a r =
       let g = went (inner s at) _ s e n r in
       let h = went (inner s (g .middle)) _ s e n (g .then) in

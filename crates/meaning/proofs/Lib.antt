@@ -1,6 +1,7 @@
 pub mod KindTable
 pub mod Readings
 pub mod Heads
+pub mod Written
 pub mod ExprSpans
 pub mod TypeSpans
 pub mod BundleSpans

@@ -9,7 +9,7 @@ use Rattle.meaning.specs.Reader.{Read, ok, refused, due, little, many}
 use Rattle.meaning.specs.ReadBundle.{recordBody, opening, readDefinition, readHeader, end, readEdges, readRest, readRecords, readBundle}
 use Rattle.meaning.specs.ReadExpr.{exprBody, exprAfter, readExpr}
 use Rattle.meaning.specs.ReadType.{head, arrayHead, readArray, typeBody, typeAfter, readTy}
-use Rattle.meaning.specs.Encoding.{bytesOf, exprBytes, headBytes, typeBytes, definitionBytes, eachBytes, bundleBytes}
+use Rattle.meaning.specs.Encoding.{numberItems, exprItems, headItems, typeItems, definitionItems, bundleItems, bundleBytes}
 
 -- no bytes: fault 2
 pub no-bytes : readBundle [] ≡ refused 2
@@ -28,7 +28,7 @@ unfolding readBundle readRecords readHeader opening recordBody due little many r
 sample-read = refl
 
 pub sample-written : bundleBytes sampleTree ≡ sample
-unfolding bundleBytes bytesOf eachBytes definitionBytes typeBytes headBytes exprBytes
+unfolding bundleBytes bundleItems numberItems definitionItems typeItems headItems exprItems
 sample-written = refl
 
 -- an expression of n complements over a literal 3 of type U8

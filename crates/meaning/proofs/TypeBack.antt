@@ -15,12 +15,13 @@ use Rattle.meaning.specs.Tree.{Expr, Ty, primitive, typeRef, struct, uni
 use Rattle.meaning.specs.Reader.{ok, after, many}
 use Rattle.meaning.specs.ReadExpr.{node, only, readExpr}
 use Rattle.meaning.specs.ReadType.{Head, head, memberBody, memberHead, readMember, readMembers, Group, readGroup, readEnum, arrayHead, readArray, typeBody, typeAfter, readTy}
-use Rattle.meaning.specs.Encoding.{bytesOf, exprBytes, count, headBytes, typeBytes, memberBytes, membersBytes}
+use Rattle.meaning.specs.Encoding.{memberCount}
+use Rattle.meaning.proofs.Written.{bytesOf, exprBytes, headBytes, typeBytes, memberBytes, membersBytes, nameBytes}
 use Rattle.meaning.specs.Within.{Fits, AttributesOk, TyOk, MemberOk, MembersOk, tyDepth, memberDepth, membersDepth}
 use Rattle.meaning.proofs.KindTable.{hit}
 use Rattle.meaning.proofs.Readings.{due-ok}
 use Rattle.meaning.proofs.Heads.{head-ok}
-use Rattle.meaning.proofs.ExprBack.{Starts, follows, starts-byte, length-bytesOf, starts-number, node-back, body-back, expr-back}
+use Rattle.meaning.proofs.ExprBack.{Starts, follows, starts-byte, length-bytesOf, starts-number, length-name, starts-name, node-back, name-body-back, expr-back}
 
 pub length-head : (a : Attributes) (w last : ℕ) → length (headBytes a w last) ≡ 9 + w
 unfolding headBytes
@@ -55,20 +56,20 @@ module _ (s : List ℕ) where
   array-head-back a jagged at rest o j e = rw (head-back a 1 jagged at rest o (omega arith) e, le-leb jagged 1 j)
 
   -- kind, name and value of a member
-  pub member-head-back : (m w name value at : ℕ) (rest : List ℕ) → formOf m ≡ OfMember w → Fits 2 name → Fits w value → Starts s at (m ∷ bytesOf 2 name ++ bytesOf w value) rest
-      → memberHead m s at ≡ ok (name, value) (at + length (m ∷ bytesOf 2 name ++ bytesOf w value))
+  pub member-head-back : (m w name value at : ℕ) (rest : List ℕ) → formOf m ≡ OfMember w → Fits 2 name → Fits w value → Starts s at (m ∷ nameBytes name ++ bytesOf w value) rest
+      → memberHead m s at ≡ ok (name, value) (at + length (m ∷ nameBytes name ++ bytesOf w value))
   unfolding memberHead memberBody
   member-head-back m w name value at rest p f g e =
-      let xs = bytesOf 2 name in
+      let xs = nameBytes name in
       let ys = bytesOf w value in
       let b = starts-byte s at m (xs ++ ys ++ rest) e in
       let q : drop (at + 1) s ≡ xs ++ (ys ++ rest) = b .2 ∙ append-assoc xs ys rest in
-      let n = starts-number s 2 name (at + 1) (ys ++ rest) f q in
-      let v = starts-number s w value (at + 1 + 2) rest g (rw (length-bytesOf 2 name) at (follows s (at + 1) xs (ys ++ rest) q)) in
+      let n = starts-name s name (at + 1) (ys ++ rest) f q in
+      let v = starts-number s w value (at + 1 + 2) rest g (rw (length-name name) at (follows s (at + 1) xs (ys ++ rest) q)) in
       let h : at + 1 + (2 + w) ≤ length s = omega (arith, v .1 (n .1 (omega (arith, b .1)))) in
       node-back s (only m memberBody) at m (OfMember w) (xs ++ ys ++ rest) e p
       ∙ rw (eq-eqb m m refl, due-ok (2 + w) (at + 1) s h, n .0, v .0)
-      (ap (ok (name, value)) (omega (arith, length-append xs ys, length-bytesOf 2 name, length-bytesOf w value)))
+      (ap (ok (name, value)) (omega (arith, length-append xs ys, length-name name, length-bytesOf w value)))
 
 -- a type where a level is left is a node
 pub ty-node : (d at : ℕ) (s : List ℕ) → 0 < d → readTy d s at ≡ node (typeAfter (readExpr (d - 1)) (readTy (d - 1))) s at
@@ -82,20 +83,20 @@ groupOf a ms = record { attributes = a; members = ms }
 
 -- a struct or union of kind k, if its members are read back
 grouped : (make : Attributes → Members → Ty) (s : List ℕ) (d at k m : ℕ) (rest : List ℕ) (f : Form) (a : Attributes) (ms : Members) (ys : List ℕ)
-    → 0 < d → formOf k ≡ f → AttributesOk a → Fits 2 (count ms)
+    → 0 < d → formOf k ≡ f → AttributesOk a → Fits 2 (memberCount ms)
     → typeAfter (readExpr (d - 1)) (readTy (d - 1)) k f s (at + 1) ≡ after (readGroup (readTy (d - 1)) m s (at + 1)) (λ g v j. ok (make (g .attributes) (g .members)) j) s
-    → Starts s at (k ∷ headBytes a 2 (count ms) ++ ys) rest
-    → ((i : ℕ) → Starts s i ys rest → readMembers (readTy (d - 1)) m (count ms) s i ≡ ok ms (i + length ys))
-    → readTy d s at ≡ ok (make a ms) (at + length (k ∷ headBytes a 2 (count ms) ++ ys))
+    → Starts s at (k ∷ headBytes a 2 (memberCount ms) ++ ys) rest
+    → ((i : ℕ) → Starts s i ys rest → readMembers (readTy (d - 1)) m (memberCount ms) s i ≡ ok ms (i + length ys))
+    → readTy d s at ≡ ok (make a ms) (at + length (k ∷ headBytes a 2 (memberCount ms) ++ ys))
 unfolding readGroup
 grouped make s d at k m rest f a ms ys h p o c q e law =
-    let xs = headBytes a 2 (count ms) in
+    let xs = headBytes a 2 (memberCount ms) in
     let b = starts-byte s at k (xs ++ ys ++ rest) e in
     let g : Starts s (at + 1) xs (ys ++ rest) = b .2 ∙ append-assoc xs ys rest in
     ty-node d at s h
     ∙ node-back s (typeAfter (readExpr (d - 1)) (readTy (d - 1))) at k f (xs ++ ys ++ rest) e p
     ∙ q
-    ∙ rw (head-back s a 2 (count ms) (at + 1) (ys ++ rest) o c g, law (at + 1 + length xs) (follows s (at + 1) xs (ys ++ rest) g))
+    ∙ rw (head-back s a 2 (memberCount ms) (at + 1) (ys ++ rest) o c g, law (at + 1 + length xs) (follows s (at + 1) xs (ys ++ rest) g))
     (ap (ok (make a ms)) (omega (arith, length-append xs ys)))
 
 -- three parts in a row
@@ -104,20 +105,20 @@ three xs ys zs rest = append-assoc (xs ++ ys) zs rest ∙ append-assoc xs ys (zs
 
 -- an enum, if its tag and its members are read back
 enumed : (s : List ℕ) (d at : ℕ) (rest : List ℕ) (a : Attributes) (tag : Expr) (ms : Members) (ys zs : List ℕ)
-    → 0 < d → AttributesOk a → Fits 2 (count ms) → Starts s at (0x43 ∷ headBytes a 2 (count ms) ++ ys ++ zs) rest
+    → 0 < d → AttributesOk a → Fits 2 (memberCount ms) → Starts s at (0x43 ∷ headBytes a 2 (memberCount ms) ++ ys ++ zs) rest
     → ((i : ℕ) → Starts s i ys (zs ++ rest) → readExpr (d - 1) s i ≡ ok tag (i + length ys))
-    → ((i : ℕ) → Starts s i zs rest → readMembers (readTy (d - 1)) 0x52 (count ms) s i ≡ ok ms (i + length zs))
-    → readTy d s at ≡ ok (enum a tag ms) (at + length (0x43 ∷ headBytes a 2 (count ms) ++ ys ++ zs))
+    → ((i : ℕ) → Starts s i zs rest → readMembers (readTy (d - 1)) 0x52 (memberCount ms) s i ≡ ok ms (i + length zs))
+    → readTy d s at ≡ ok (enum a tag ms) (at + length (0x43 ∷ headBytes a 2 (memberCount ms) ++ ys ++ zs))
 unfolding typeAfter typeBody lookup readEnum
 enumed s d at rest a tag ms ys zs h o c e expr-law law =
-    let xs = headBytes a 2 (count ms) in
+    let xs = headBytes a 2 (memberCount ms) in
     let b = starts-byte s at 0x43 (xs ++ ys ++ zs ++ rest) e in
     let g : Starts s (at + 1) xs (ys ++ (zs ++ rest)) = b .2 ∙ three xs ys zs rest in
     let i : Starts s (at + 1 + length xs) ys (zs ++ rest) = follows s (at + 1) xs (ys ++ (zs ++ rest)) g in
     ty-node d at s h
     ∙ node-back s (typeAfter (readExpr (d - 1)) (readTy (d - 1))) at 0x43 (OfType Enum) (xs ++ ys ++ zs ++ rest) e refl
     ∙ rw (
-      head-back s a 2 (count ms) (at + 1) (ys ++ (zs ++ rest)) o c g,
+      head-back s a 2 (memberCount ms) (at + 1) (ys ++ (zs ++ rest)) o c g,
       expr-law (at + 1 + length xs) i,
       law (at + 1 + length xs + length ys) (follows s (at + 1 + length xs) ys (zs ++ rest) i),
     )
@@ -145,7 +146,7 @@ arrayed s d at rest a jagged size element ys zs h o c e expr-law law =
     (ap (ok (array a jagged size element)) (omega (arith, length-append (xs ++ ys) zs, length-append xs ys)))
 
 mutual
-  unfolding typeAfter typeBody typeBytes lookup count many readMember
+  unfolding typeAfter typeBody typeBytes lookup memberCount many readMember
 
   -- a type
   pub ty-back : (t : Ty) (s : List ℕ) → TyOk t → (d at : ℕ) (rest : List ℕ) → tyDepth t ≤ d → Starts s at (typeBytes t) rest → readTy d s at ≡ ok t (at + length (typeBytes t))
@@ -153,10 +154,10 @@ mutual
       ty-node d at s h
       ∙ node-back s (typeAfter (readExpr (d - 1)) (readTy (d - 1))) at k (OfType Primitive) rest e (hit kinds 1 6 k tt (lit< tt) (o .0) (o .1))
   ty-back (typeRef x) s o d at rest h e =
-      let b = starts-byte s at 0x40 (bytesOf 2 x ++ rest) e in
+      let b = starts-byte s at 0x40 (nameBytes x ++ rest) e in
       ty-node d at s h
-      ∙ node-back s (typeAfter (readExpr (d - 1)) (readTy (d - 1))) at 0x40 (OfType TypeRef) (bytesOf 2 x ++ rest) e refl
-      ∙ rw (body-back s 2 x (at + 1) rest (omega (arith, b .1)) o (b .2)) (ap (ok (typeRef x)) (omega (arith, length-bytesOf 2 x)))
+      ∙ node-back s (typeAfter (readExpr (d - 1)) (readTy (d - 1))) at 0x40 (OfType TypeRef) (nameBytes x ++ rest) e refl
+      ∙ rw (name-body-back s x (at + 1) rest (omega (arith, b .1)) o (b .2)) (ap (ok (typeRef x)) (omega (arith, length-name x)))
   ty-back (struct a ms) s o d at rest h e =
       grouped struct s d at 0x41 0x50 rest (OfType Struct) a ms (membersBytes ms 0x50 0) (omega arith) refl (o .0) (o .1) refl e
       (λ i q. members-back ms s 0x50 0 refl (o .2) (d - 1) i rest (omega arith) q)
@@ -179,7 +180,7 @@ mutual
   pub member-back : (x : Member) (s : List ℕ) (m w : ℕ) → formOf m ≡ OfMember w → MemberOk x w → (d at : ℕ) (rest : List ℕ) → memberDepth x ≤ d → Starts s at (memberBytes x m w) rest
       → readMember (readTy d) m s at ≡ ok x (at + length (memberBytes x m w))
   member-back (member name value type) s m w p o d at rest h e =
-      let xs = m ∷ bytesOf 2 name ++ bytesOf w value in
+      let xs = m ∷ nameBytes name ++ bytesOf w value in
       let q : Starts s at xs (typeBytes type ++ rest) = e ∙ append-assoc xs (typeBytes type) rest in
       rw (
         member-head-back s m w name value at (typeBytes type ++ rest) p (o .0) (o .1) q,
@@ -189,7 +190,7 @@ mutual
 
   -- members
   pub members-back : (ms : Members) (s : List ℕ) (m w : ℕ) → formOf m ≡ OfMember w → MembersOk ms w → (d at : ℕ) (rest : List ℕ) → membersDepth ms ≤ d → Starts s at (membersBytes ms m w) rest
-      → readMembers (readTy d) m (count ms) s at ≡ ok ms (at + length (membersBytes ms m w))
+      → readMembers (readTy d) m (memberCount ms) s at ≡ ok ms (at + length (membersBytes ms m w))
   members-back none s m w p o d at rest h e = ap (ok none) (omega arith)
   members-back (more x ms) s m w p o d at rest h e =
       let xs = memberBytes x m w in

@@ -16,9 +16,10 @@ use Rattle.meaning.specs.Tree.{Expr, Ty, Member, Members, none, more}
 use Rattle.meaning.specs.ReadExpr.{body, readExpr, kind}
 use Rattle.meaning.specs.ReadType.{Head, head, memberBody, memberHead, readMember, readMembers, Group, readGroup, readEnum, arrayHead, readArray, typeBody, typeAfter, readTy}
 use Rattle.meaning.specs.Reader.{ok, Reader, after, due, check, many, little}
-use Rattle.meaning.specs.Encoding.{Bytes, bytesOf, exprBytes, count, headBytes, typeBytes, memberBytes, membersBytes}
+use Rattle.meaning.specs.Encoding.{Bytes, memberCount}
+use Rattle.meaning.proofs.Written.{bytesOf, exprBytes, headBytes, typeBytes, memberBytes, membersBytes, nameBytes}
 use Rattle.meaning.proofs.Readings.{went, there}
-use Rattle.meaning.proofs.ExprSpans.{Spans, both, byte-spans, number-spans, body-spans, kind-spans, settle, agree, agrees, node-spans, no, expr-spans}
+use Rattle.meaning.proofs.ExprSpans.{Spans, both, byte-spans, number-spans, name-spans, name-body-spans, kind-spans, settle, agree, agrees, node-spans, no, expr-spans}
 
 -- a check that let reading go on
 pub passed : (t : Bool) (k : ℕ) (s : List ℕ) (at : ℕ) (u : Unit {0}) (m : ℕ) → check t k s at ≡ ok u m → (t ≡ true) × (m ≡ at)
@@ -63,7 +64,7 @@ module _ (s : List ℕ) (bytes : Bytes s) where
           (both s at (at + 1) (at + 1 + 8) (getD s at 0 ∷ []) (bytesOf 8 (little s (at + 1) 8)) (byte-spans s bytes at (omega arith)) (number-spans s bytes 8 (at + 1) (omega arith)))
           (number-spans s bytes w (at + 1 + 8) (omega arith))))
 
-  -- the same, with the number of members that were read in the place of the count
+  -- the same, with the number of members that were read in the place of the memberCount
   pub counted : (at n : ℕ) (h : Head) (c : ℕ) → c ≡ h .last → head 2 s at ≡ ok h n → Spans s at (headBytes (h .attributes) 2 c) n
   counted at n h c e r = rw e (head-spans 2 at n h r)
 
@@ -85,7 +86,7 @@ module _ (s : List ℕ) (bytes : Bytes s) where
       (q, rw (← q, p .1) (node-spans s bytes at k i i (k ∷ []) e refl))
 
   -- the kind, name and value of a member
-  pub member-head-spans : (m w : ℕ) → OfMember w ≡ formOf m → (at n : ℕ) (h : ℕ × ℕ) → memberHead m s at ≡ ok h n → Spans s at (m ∷ bytesOf 2 (h .0) ++ bytesOf w (h .1)) n
+  pub member-head-spans : (m w : ℕ) → OfMember w ≡ formOf m → (at n : ℕ) (h : ℕ × ℕ) → memberHead m s at ≡ ok h n → Spans s at (m ∷ nameBytes (h .0) ++ bytesOf w (h .1)) n
   unfolding memberHead memberBody
   member-head-spans m w f at n h e =
       let g = went (kind s at) _ s h n e in
@@ -93,16 +94,16 @@ module _ (s : List ℕ) (bytes : Bytes s) where
       let x = expected m at (g .value) (g .middle) (c .middle) (c .value) (g .first) (c .first) in
       values (g .value) (c .middle) (x .0) (x .1) (c .then)
     where
-      pair : (i : ℕ) → i + (2 + w) ≤ length s → Spans s at (m ∷ []) i → Spans s at (m ∷ bytesOf 2 (little s i 2) ++ bytesOf w (little s (i + 2) w)) (i + 2 + w)
+      pair : (i : ℕ) → i + (2 + w) ≤ length s → Spans s at (m ∷ []) i → Spans s at (m ∷ nameBytes (little s i 2) ++ bytesOf w (little s (i + 2) w)) (i + 2 + w)
       pair i b p =
-          both s at (i + 2) (i + 2 + w) (m ∷ bytesOf 2 (little s i 2)) (bytesOf w (little s (i + 2) w))
-          (both s at i (i + 2) (m ∷ []) (bytesOf 2 (little s i 2)) p (number-spans s bytes 2 i (omega arith)))
+          both s at (i + 2) (i + 2 + w) (m ∷ nameBytes (little s i 2)) (bytesOf w (little s (i + 2) w))
+          (both s at i (i + 2) (m ∷ []) (nameBytes (little s i 2)) p (name-spans s bytes i (omega arith)))
           (number-spans s bytes w (i + 2) (omega arith))
 
-      ends : (i j : ℕ) → j ≡ i → i + (2 + w) ≤ length s → Spans s at (m ∷ []) i → ok (little s j 2, little s (j + 2) w) (j + 2 + w) ≡ ok h n → Spans s at (m ∷ bytesOf 2 (h .0) ++ bytesOf w (h .1)) n
-      ends i j e b p q = settle (λ (h : ℕ × ℕ) n. Spans s at (m ∷ bytesOf 2 (h .0) ++ bytesOf w (h .1)) n) (rw e at q) (pair i b p)
+      ends : (i j : ℕ) → j ≡ i → i + (2 + w) ≤ length s → Spans s at (m ∷ []) i → ok (little s j 2, little s (j + 2) w) (j + 2 + w) ≡ ok h n → Spans s at (m ∷ nameBytes (h .0) ++ bytesOf w (h .1)) n
+      ends i j e b p q = settle (λ (h : ℕ × ℕ) n. Spans s at (m ∷ nameBytes (h .0) ++ bytesOf w (h .1)) n) (rw e at q) (pair i b p)
 
-      values : (k i : ℕ) → k ≡ m → Spans s at (m ∷ []) i → memberBody (formOf k) s i ≡ ok h n → Spans s at (m ∷ bytesOf 2 (h .0) ++ bytesOf w (h .1)) n
+      values : (k i : ℕ) → k ≡ m → Spans s at (m ∷ []) i → memberBody (formOf k) s i ≡ ok h n → Spans s at (m ∷ nameBytes (h .0) ++ bytesOf w (h .1)) n
       values k i z p q =
           let g = went (due (2 + w) s i) _ s h n (rw (z, ← f) at q) in
           let t = there (2 + w) i s (g .value) (g .middle) (g .first) in
@@ -119,24 +120,24 @@ module _ (s : List ℕ) (bytes : Bytes s) (expr : Reader Expr) (inner : Reader T
         let g = went (memberHead m s at) _ s x n e in
         let h = went (inner s (g .middle)) _ s x n (g .then) in
         settle (λ x n. Spans s at (memberBytes x m w) n) (h .then)
-        (both s at (g .middle) (h .middle) (m ∷ bytesOf 2 (g .value .0) ++ bytesOf w (g .value .1)) (typeBytes (h .value))
+        (both s at (g .middle) (h .middle) (m ∷ nameBytes (g .value .0) ++ bytesOf w (g .value .1)) (typeBytes (h .value))
         (member-head-spans s bytes m w f at (g .middle) (g .value) (g .first)) (law (g .middle) (h .middle) (h .value) (h .first)))
 
-    pub members-spans : (n at i : ℕ) (ms : Members) → readMembers inner m n s at ≡ ok ms i → Spans s at (membersBytes ms m w) i × (count ms ≡ n)
-    unfolding typeBytes count
+    pub members-spans : (n at i : ℕ) (ms : Members) → readMembers inner m n s at ≡ ok ms i → Spans s at (membersBytes ms m w) i × (memberCount ms ≡ n)
+    unfolding typeBytes memberCount
     members-spans n at i ms e =
-        many-spans s more none (readMember inner m) (λ x. memberBytes x m w) (λ ms. membersBytes ms m w) count
+        many-spans s more none (readMember inner m) (λ x. memberBytes x m w) (λ ms. membersBytes ms m w) memberCount
         member-spans refl (λ a b. refl) refl (λ a b. refl) n at i ms e
 
-    pub group-spans : (at n : ℕ) (g : Group) → readGroup inner m s at ≡ ok g n → Spans s at (headBytes (g .attributes) 2 (count (g .members)) ++ membersBytes (g .members) m w) n
+    pub group-spans : (at n : ℕ) (g : Group) → readGroup inner m s at ≡ ok g n → Spans s at (headBytes (g .attributes) 2 (memberCount (g .members)) ++ membersBytes (g .members) m w) n
     unfolding readGroup
     group-spans at n g e =
         let h = went (head 2 s at) _ s g n e in
         let x = went (readMembers inner m (h .value .last) s (h .middle)) _ s g n (h .then) in
         let q = members-spans (h .value .last) (h .middle) (x .middle) (x .value) (x .first) in
-        settle (λ (g : Group) n. Spans s at (headBytes (g .attributes) 2 (count (g .members)) ++ membersBytes (g .members) m w) n) (x .then)
-        (both s at (h .middle) (x .middle) (headBytes (h .value .attributes) 2 (count (x .value))) (membersBytes (x .value) m w)
-        (counted s bytes at (h .middle) (h .value) (count (x .value)) (q .1) (h .first)) (q .0))
+        settle (λ (g : Group) n. Spans s at (headBytes (g .attributes) 2 (memberCount (g .members)) ++ membersBytes (g .members) m w) n) (x .then)
+        (both s at (h .middle) (x .middle) (headBytes (h .value .attributes) 2 (memberCount (x .value))) (membersBytes (x .value) m w)
+        (counted s bytes at (h .middle) (h .value) (memberCount (x .value)) (q .1) (h .first)) (q .0))
 
   pub enum-spans : (at n : ℕ) (t : Ty) → readEnum expr inner s at ≡ ok t n → 0x43 ∷ drop at s ≡ typeBytes t ++ drop n s
   unfolding readEnum typeBytes lookup
@@ -147,9 +148,9 @@ module _ (s : List ℕ) (bytes : Bytes s) (expr : Reader Expr) (inner : Reader T
       let q = members-spans 0x52 8 refl (h .value .last) (g .middle) (x .middle) (x .value) (x .first) in
       settle (λ t n. 0x43 ∷ drop at s ≡ typeBytes t ++ drop n s) (x .then)
       (ap (λ (l : List ℕ). 0x43 ∷ l)
-      (both s at (g .middle) (x .middle) (headBytes (h .value .attributes) 2 (count (x .value)) ++ exprBytes (g .value)) (membersBytes (x .value) 0x52 8)
-      (both s at (h .middle) (g .middle) (headBytes (h .value .attributes) 2 (count (x .value))) (exprBytes (g .value))
-      (counted s bytes at (h .middle) (h .value) (count (x .value)) (q .1) (h .first)) (expr-law (h .middle) (g .middle) (g .value) (g .first)))
+      (both s at (g .middle) (x .middle) (headBytes (h .value .attributes) 2 (memberCount (x .value)) ++ exprBytes (g .value)) (membersBytes (x .value) 0x52 8)
+      (both s at (h .middle) (g .middle) (headBytes (h .value .attributes) 2 (memberCount (x .value))) (exprBytes (g .value))
+      (counted s bytes at (h .middle) (h .value) (memberCount (x .value)) (q .1) (h .first)) (expr-law (h .middle) (g .middle) (g .value) (g .first)))
       (q .0)))
 
   pub array-spans : (at n : ℕ) (t : Ty) → readArray expr inner s at ≡ ok t n → 0x44 ∷ drop at s ≡ typeBytes t ++ drop n s
@@ -171,7 +172,7 @@ module _ (s : List ℕ) (bytes : Bytes s) (expr : Reader Expr) (inner : Reader T
   type-body-spans k at n t TypeRef a r =
       let g = went (body 2 s at) _ s t n r in
       settle (λ t n. k ∷ drop at s ≡ typeBytes t ++ drop n s) (g .then)
-      (rw (eqb→eq k 0x40 a, ← body-spans s bytes 2 at (g .value) (g .middle) (g .first)))
+      (rw (eqb→eq k 0x40 a, ← name-body-spans s bytes at (g .value) (g .middle) (g .first)))
   type-body-spans k at n t Struct a r =
       let g = went (readGroup inner 0x50 s at) _ s t n r in
       settle (λ t n. k ∷ drop at s ≡ typeBytes t ++ drop n s) (g .then)

@@ -1,8 +1,11 @@
--- The bytes of a tree: what writing gives, and what reading reads back.
+-- The encoding of a tree (document 01, "Bundle records"): a list of items, each a plain byte or a name. The bytes of a bundle,
+-- its names front to back, and the bundle with every name put through a map are folds of that one list (names' Documents.antt).
 use Prim.Native.Nat.{ℕ, zero, suc, _+_, _-_, _/_, _%_, _<_}
-use mathlib.Core.List.{List, [], _∷_, _++_}
+use mathlib.Core.List.{List, [], _∷_, _++_, map}
 use lib.ListN.{length, getD}
+use Rattle.names.specs.Documents.{Item, byte, name, bytes}
 use Rattle.meaning.specs.Kinds.{widths}
+use Rattle.meaning.specs.Lists.{flatMap}
 use Rattle.meaning.specs.Tree.{Expr, literal, fieldRef, sizeof, alignof, binary, unary}
 use Rattle.meaning.specs.Tree.{Ty, primitive, typeRef, struct, union, enum, array, sizeUnion}
 use Rattle.meaning.specs.Tree.{Attributes, Member, member, Members, none, more, Definition, Edge, Bundle}
@@ -11,69 +14,63 @@ use Rattle.meaning.specs.Tree.{Attributes, Member, member, Members, none
 abbrev pub Bytes : List ℕ → Type 0
 Bytes s = (i : ℕ) → getD s i 0 < 256
 
--- the w bytes of v, little-endian
-unfoldable pub bytesOf : ℕ → ℕ → List ℕ
-bytesOf zero v = []
-bytesOf (suc w) v = (v % 256) ∷ bytesOf w (v / 256)
-
--- names of two bytes each
-unfoldable pub namesBytes : List ℕ → List ℕ
-namesBytes [] = []
-namesBytes (x ∷ xs) = bytesOf 2 x ++ namesBytes xs
+-- a number in w bytes, little-endian
+unfoldable pub numberItems : ℕ → ℕ → List Item
+numberItems zero v = []
+numberItems (suc w) v = byte (v % 256) ∷ numberItems w (v / 256)
 
 -- an expression
-unfoldable pub exprBytes : Expr → List ℕ
-exprBytes (literal k v) = k ∷ bytesOf (getD widths (k - 1) 0) v
-exprBytes (fieldRef names) = (8 + length names) ∷ namesBytes names
-exprBytes (sizeof x) = 0x0D ∷ bytesOf 2 x
-exprBytes (alignof x) = 0x0E ∷ bytesOf 2 x
-exprBytes (binary k l r) = k ∷ exprBytes l ++ exprBytes r
-exprBytes (unary k e) = k ∷ exprBytes e
+unfoldable pub exprItems : Expr → List Item
+exprItems (literal k v) = byte k ∷ numberItems (getD widths (k - 1) 0) v
+exprItems (fieldRef path) = byte (8 + length path) ∷ map name path
+exprItems (sizeof x) = byte 0x0D ∷ name x ∷ []
+exprItems (alignof x) = byte 0x0E ∷ name x ∷ []
+exprItems (binary k l r) = byte k ∷ exprItems l ++ exprItems r
+exprItems (unary k e) = byte k ∷ exprItems e
 
 -- the number of members
-unfoldable pub count : Members → ℕ
-count none = 0
-count (more m ms) = suc (count ms)
+unfoldable pub memberCount : Members → ℕ
+memberCount none = 0
+memberCount (more m ms) = suc (memberCount ms)
 
 -- attributes, and the number of w bytes behind them
-unfoldable pub headBytes : Attributes → ℕ → ℕ → List ℕ
-headBytes a w last = (a .packed) ∷ bytesOf 8 (a .aligned) ++ bytesOf w last
+unfoldable pub headItems : Attributes → ℕ → ℕ → List Item
+headItems a w last = byte (a .packed) ∷ numberItems 8 (a .aligned) ++ numberItems w last
 
 unfoldable mutual
   -- a type
-  pub typeBytes : Ty → List ℕ
-  typeBytes (primitive k) = k ∷ []
-  typeBytes (typeRef x) = 0x40 ∷ bytesOf 2 x
-  typeBytes (struct a ms) = 0x41 ∷ headBytes a 2 (count ms) ++ membersBytes ms 0x50 0
-  typeBytes (union a ms) = 0x42 ∷ headBytes a 2 (count ms) ++ membersBytes ms 0x51 0
-  typeBytes (enum a tag ms) = 0x43 ∷ headBytes a 2 (count ms) ++ exprBytes tag ++ membersBytes ms 0x52 8
-  typeBytes (array a jagged size element) = 0x44 ∷ headBytes a 1 jagged ++ exprBytes size ++ typeBytes element
-  typeBytes (sizeUnion a ms) = 0x45 ∷ headBytes a 2 (count ms) ++ membersBytes ms 0x53 8
+  pub typeItems : Ty → List Item
+  typeItems (primitive k) = byte k ∷ []
+  typeItems (typeRef x) = byte 0x40 ∷ name x ∷ []
+  typeItems (struct a ms) = byte 0x41 ∷ headItems a 2 (memberCount ms) ++ membersItems ms 0x50 0
+  typeItems (union a ms) = byte 0x42 ∷ headItems a 2 (memberCount ms) ++ membersItems ms 0x51 0
+  typeItems (enum a tag ms) = byte 0x43 ∷ headItems a 2 (memberCount ms) ++ exprItems tag ++ membersItems ms 0x52 8
+  typeItems (array a jagged size element) = byte 0x44 ∷ headItems a 1 jagged ++ exprItems size ++ typeItems element
+  typeItems (sizeUnion a ms) = byte 0x45 ∷ headItems a 2 (memberCount ms) ++ membersItems ms 0x53 8
 
   -- a member of kind k, whose value has w bytes
-  pub memberBytes : Member → ℕ → ℕ → List ℕ
-  memberBytes (member name value type) k w = k ∷ bytesOf 2 name ++ bytesOf w value ++ typeBytes type
+  pub memberItems : Member → ℕ → ℕ → List Item
+  memberItems (member n v t) k w = byte k ∷ name n ∷ numberItems w v ++ typeItems t
 
   -- members of kind k, whose values have w bytes
-  pub membersBytes : Members → ℕ → ℕ → List ℕ
-  membersBytes none k w = []
-  membersBytes (more m ms) k w = memberBytes m k w ++ membersBytes ms k w
+  pub membersItems : Members → ℕ → ℕ → List Item
+  membersItems none k w = []
+  membersItems (more m ms) k w = memberItems m k w ++ membersItems ms k w
 
 -- a definition
-unfoldable pub definitionBytes : Definition → List ℕ
-definitionBytes d = 0x61 ∷ bytesOf 2 (d .name) ++ typeBytes (d .type)
+unfoldable pub definitionItems : Definition → List Item
+definitionItems d = byte 0x61 ∷ name (d .name) ∷ typeItems (d .type)
 
 -- an edge
-unfoldable pub edgeBytes : Edge → List ℕ
-edgeBytes e = 0x62 ∷ bytesOf 2 (e .from) ++ bytesOf 2 (e .to) ++ e .kind ∷ []
+unfoldable pub edgeItems : Edge → List Item
+edgeItems e = byte 0x62 ∷ name (e .from) ∷ name (e .to) ∷ byte (e .kind) ∷ []
 
--- each of a list, one after the other
-unfoldable pub eachBytes : {A : Type 0} → (A → List ℕ) → List A → List ℕ
-eachBytes f [] = []
-eachBytes f (a ∷ rest) = f a ++ eachBytes f rest
+-- a bundle: its header, its definitions, its edges
+unfoldable pub bundleItems : Bundle → List Item
+bundleItems b =
+    byte 0x60 ∷ numberItems 2 (length (b .definitions)) ++ numberItems 2 (length (b .edges)) ++ name (b .current)
+    ∷ flatMap definitionItems (b .definitions) ++ flatMap edgeItems (b .edges)
 
--- a bundle
+-- its bytes
 unfoldable pub bundleBytes : Bundle → List ℕ
-bundleBytes b =
-    0x60 ∷ bytesOf 2 (length (b .definitions)) ++ bytesOf 2 (length (b .edges)) ++ bytesOf 2 (b .current)
-    ++ eachBytes definitionBytes (b .definitions) ++ eachBytes edgeBytes (b .edges)
+bundleBytes b = bytes (bundleItems b)

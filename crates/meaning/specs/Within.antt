@@ -7,7 +7,7 @@ use Rattle.meaning.specs.Kinds.{widths}
 use Rattle.meaning.specs.Tree.{Expr, literal, fieldRef, sizeof, alignof, binary, unary}
 use Rattle.meaning.specs.Tree.{Ty, primitive, typeRef, struct, union, enum, array, sizeUnion}
 use Rattle.meaning.specs.Tree.{Attributes, Member, member, Members, none, more, Definition, Edge, Bundle}
-use Rattle.meaning.specs.Encoding.{count, bundleBytes}
+use Rattle.meaning.specs.Encoding.{memberCount, bundleBytes}
 
 -- v fits w bytes
 abbrev pub Fits : ℕ → ℕ → Type 0
@@ -49,11 +49,11 @@ abbrev mutual
   pub TyOk : Ty → Type 0
   TyOk (primitive k) = Between 0x30 0x3B k
   TyOk (typeRef x) = Fits 2 x
-  TyOk (struct a ms) = AttributesOk a × Fits 2 (count ms) × MembersOk ms 0
-  TyOk (union a ms) = AttributesOk a × Fits 2 (count ms) × MembersOk ms 0
-  TyOk (enum a tag ms) = AttributesOk a × Fits 2 (count ms) × ExprOk tag × MembersOk ms 8
+  TyOk (struct a ms) = AttributesOk a × Fits 2 (memberCount ms) × MembersOk ms 0
+  TyOk (union a ms) = AttributesOk a × Fits 2 (memberCount ms) × MembersOk ms 0
+  TyOk (enum a tag ms) = AttributesOk a × Fits 2 (memberCount ms) × ExprOk tag × MembersOk ms 8
   TyOk (array a jagged size element) = AttributesOk a × (jagged ≤ 1) × ExprOk size × TyOk element
-  TyOk (sizeUnion a ms) = AttributesOk a × Fits 2 (count ms) × MembersOk ms 8
+  TyOk (sizeUnion a ms) = AttributesOk a × Fits 2 (memberCount ms) × MembersOk ms 8
 
   -- a member whose value has w bytes
   pub MemberOk : Member → ℕ → Type 0

@@ -17,7 +17,7 @@ mod types;
 
 /// The place under which dependency.rs looks for the two others.
 mod abi {
-    pub use crate::{expr, types};
+    pub(crate) use crate::{expr, types};
 }
 
 pub mod bundle;

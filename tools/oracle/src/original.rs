@@ -224,11 +224,9 @@ fn expr_kind(node: &Expr) -> ExprKind {
         Expr::Alignof(name) => ExprKind::Alignof(AlignofExpr {
             type_name: text(*name),
         }),
-        Expr::Binary(kind, left, right) => binary(
-            *kind,
-            Box::new(expr_kind(left)),
-            Box::new(expr_kind(right)),
-        ),
+        Expr::Binary(kind, left, right) => {
+            binary(*kind, Box::new(expr_kind(left)), Box::new(expr_kind(right)))
+        }
         Expr::Unary(kind, operand) => unary(*kind, Box::new(expr_kind(operand))),
     }
 }

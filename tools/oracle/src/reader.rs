@@ -158,10 +158,7 @@ impl Reader<'_> {
         }
         let kind = self.take(1)?[0];
         match kind {
-            0x01..=0x08 => Ok(Expr::Literal(
-                kind,
-                number(self.take(literal_width(kind))?),
-            )),
+            0x01..=0x08 => Ok(Expr::Literal(kind, number(self.take(literal_width(kind))?))),
             0x09..=0x0C => {
                 let body = self.take(2 * (kind as usize - 8))?;
                 let path = body.chunks(2).map(|pair| number(pair) as Name).collect();
@@ -181,7 +178,10 @@ impl Reader<'_> {
 }
 
 fn number(bytes: &[u8]) -> u64 {
-    bytes.iter().rev().fold(0, |sum, b| sum << 8 | u64::from(*b))
+    bytes
+        .iter()
+        .rev()
+        .fold(0, |sum, b| sum << 8 | u64::from(*b))
 }
 
 /// Names of the TypeRefs anywhere inside a type, in order.
@@ -212,7 +212,10 @@ pub fn leads(bundle: &Bundle) -> Vec<Vec<usize>> {
     let targets = |definition: &Definition| {
         let mut names = Vec::new();
         type_refs(&definition.body, &mut names);
-        let mut list: Vec<usize> = names.iter().filter_map(|n| places.get(n).copied()).collect();
+        let mut list: Vec<usize> = names
+            .iter()
+            .filter_map(|n| places.get(n).copied())
+            .collect();
         list.sort_unstable();
         list.dedup();
         list

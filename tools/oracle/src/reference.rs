@@ -273,7 +273,9 @@ fn one_primitive_size(list: &[Member]) -> bool {
         _ => 0,
     };
     let sizes: Vec<u8> = list.iter().map(size).collect();
-    sizes.first().is_some_and(|one| *one > 0 && sizes.iter().all(|other| other == one))
+    sizes
+        .first()
+        .is_some_and(|one| *one > 0 && sizes.iter().all(|other| other == one))
 }
 
 fn primitive_size(kind: u8) -> u8 {
@@ -316,10 +318,12 @@ pub fn references_in_type(node: &Type, found: &mut Vec<Path>) {
         }
         Type::Enum(_, tag, list) => {
             add_references(tag, found);
-            list.iter().for_each(|m| references_in_type(&m.member_type, found));
+            list.iter()
+                .for_each(|m| references_in_type(&m.member_type, found));
         }
         Type::Struct(_, list) | Type::Union(_, list) => {
-            list.iter().for_each(|m| references_in_type(&m.member_type, found));
+            list.iter()
+                .for_each(|m| references_in_type(&m.member_type, found));
         }
         Type::Primitive(_) | Type::TypeRef(_) | Type::SizeUnion(..) => {}
     }

@@ -24,7 +24,11 @@ pub fn steps(bundle: &Bundle) -> u64 {
     let edges = bundle.edges.len() as u64 + 1;
     let search = edges * (targets.len() as u64 + 1);
     let lookup = bundle.definitions.len() as u64;
-    let fields: u64 = bundle.definitions.iter().map(|d| field_count(&d.body)).sum();
+    let fields: u64 = bundle
+        .definitions
+        .iter()
+        .map(|d| field_count(&d.body))
+        .sum();
     let mut total: u64 = 0;
     for definition in &bundle.definitions {
         let own = bound.named(definition.name);

@@ -1,0 +1,149 @@
+//! Commands over the original validators; README.md lists them.
+
+use layout_oracle::cases::{cases, Case};
+use layout_oracle::compare::{compare_answers, compare_readings, hex, Difference, Tally};
+use layout_oracle::limits::edge_cases;
+use layout_oracle::reader;
+use layout_oracle::report::{program_bytes, report_bytes};
+use layout_oracle::{bundle, original, reference, work};
+use std::io::{self, Read, Write};
+use std::process::{Command, ExitCode, Stdio};
+use std::time::Instant;
+
+const USAGE: &str = "usage:
+  oracle report < bundle > report
+  oracle renumber < bundle > bundle
+  oracle chain FROM TO < bundle
+  oracle self SEED COUNT
+  oracle program PATH SEED COUNT
+  oracle cases SEED COUNT
+  oracle edgecases";
+
+fn main() -> ExitCode {
+    let arguments: Vec<String> = std::env::args().skip(1).collect();
+    let words: Vec<&str> = arguments.iter().map(String::as_str).collect();
+    let done = match words.as_slice() {
+        ["report"] => report(),
+        ["renumber"] => renumber(),
+        ["chain", from, to] => number(from).zip(number(to)).map(|(f, t)| chain(f, t)),
+        ["self", seed, count] => number(seed)
+            .zip(number(count))
+            .map(|(seed, count)| finish(|| compare_readings(seed, count as usize))),
+        ["program", path, seed, count] => number(seed)
+            .zip(number(count))
+            .map(|(seed, count)| finish(|| program(path, seed, count as usize))),
+        ["cases", seed, count] => number(seed)
+            .zip(number(count))
+            .map(|(seed, count)| print_cases(&cases(seed, count as usize))),
+        ["edgecases"] => Some(print_cases(&edge_cases())),
+        _ => None,
+    };
+    done.unwrap_or_else(|| {
+        eprintln!("{USAGE}");
+        ExitCode::from(2)
+    })
+}
+
+fn number(text: &str) -> Option<u64> {
+    text.parse().ok()
+}
+
+fn input() -> Vec<u8> {
+    let mut bytes = Vec::new();
+    io::stdin().read_to_end(&mut bytes).expect("standard input");
+    bytes
+}
+
+fn output(bytes: &[u8]) -> Option<ExitCode> {
+    io::stdout().write_all(bytes).expect("standard output");
+    Some(ExitCode::SUCCESS)
+}
+
+fn report() -> Option<ExitCode> {
+    let outcome = reader::read(&input()).map(|bundle| {
+        if !work::within_limit(&bundle) {
+            eprintln!("the original may take very long for this bundle");
+        }
+        report_bytes(&original::violations(&bundle))
+    });
+    output(&program_bytes(outcome))
+}
+
+fn renumber() -> Option<ExitCode> {
+    let outcome = reader::read(&input());
+    let renumbered = outcome.map(|bundle| bundle::encode(&reference::renumber(&bundle)));
+    output(&program_bytes(renumbered))
+}
+
+fn chain(from: u64, to: u64) -> ExitCode {
+    match reader::read(&input()) {
+        Err(refusal) => println!("refused {refusal}"),
+        Ok(bundle) => match original::chain(&bundle, from as u16, to as u16) {
+            None => println!("none"),
+            Some(names) => println!("{names:?}"),
+        },
+    }
+    ExitCode::SUCCESS
+}
+
+fn finish(run: impl FnOnce() -> Result<Tally, Difference>) -> ExitCode {
+    let start = Instant::now();
+    match run() {
+        Ok(tally) => {
+            println!("{tally}");
+            println!("no difference, {:.1} s", start.elapsed().as_secs_f64());
+            ExitCode::SUCCESS
+        }
+        Err(difference) => {
+            println!("{difference}");
+            ExitCode::FAILURE
+        }
+    }
+}
+
+fn program(path: &str, seed: u64, count: usize) -> Result<Tally, Difference> {
+    for case in edge_cases() {
+        let found = run_program(path, &case.bundle);
+        if found != case.answer {
+            return Err(Difference {
+                what: "limit case",
+                bundle: case.bundle,
+                expected: case.answer,
+                found,
+            });
+        }
+    }
+    compare_answers(seed, count, &|bytes| run_program(path, bytes))
+}
+
+/// Runs the program once. It may answer before it has read everything, so a
+/// closed pipe while writing is no failure.
+fn run_program(path: &str, bytes: &[u8]) -> Vec<u8> {
+    let mut child = Command::new(path)
+        .stdin(Stdio::piped())
+        .stdout(Stdio::piped())
+        .spawn()
+        .unwrap_or_else(|error| panic!("cannot run {path}: {error}"));
+    let mut pipe = child.stdin.take().expect("a pipe");
+    let written = pipe.write_all(bytes);
+    drop(pipe);
+    let result = child.wait_with_output().expect("the program's output");
+    if let Err(error) = written {
+        assert_eq!(error.kind(), io::ErrorKind::BrokenPipe, "{error}");
+    }
+    result.stdout
+}
+
+/// One case a line; an empty bundle is written as `-`.
+fn print_cases(list: &[Case]) -> ExitCode {
+    let mut out = io::BufWriter::new(io::stdout().lock());
+    for case in list {
+        let bundle = match case.bundle.is_empty() {
+            true => "-".to_string(),
+            false => hex(&case.bundle),
+        };
+        let answer = hex(&case.answer);
+        writeln!(out, "{bundle} {answer}").expect("standard output");
+    }
+    ExitCode::SUCCESS
+}
