@@ -5,6 +5,7 @@ use mathlib.Core.Path.{_≡_, refl, sym, ap, _∙_}
 use mathlib.Core.List.{List, [], _∷_, _++_, append-assoc, append-nil}
 use lib.ListN.{length, drop, length-append}
 use borrow.Author.Tests.{le-leb, eq-eqb}
+use Rattle.meaning.specs.Limits.{sizeLimit, definitionLimit, edgeLimit, depthLimit}
 use Rattle.meaning.specs.Kinds.{OfRecord}
 use Rattle.meaning.specs.Kinds.{formOf, lookup}
 use Rattle.meaning.specs.Tree.{Definition, Edge, Bundle}
@@ -42,7 +43,7 @@ module _ (s : List ℕ) where
       let ys = typeBytes (d .type) in
       let b = starts-byte s at 0x61 (xs ++ ys ++ rest) e in
       let n = name-next (d .name) (at + 1) (ys ++ rest) (omega (arith, b .1)) (o .0) (b .2 ∙ append-assoc xs ys rest) in
-      rw (opening-back 0x61 0 1 0 at (xs ++ ys ++ rest) refl e (n .1), n .0, ty-back (d .type) s (o .1) 24 (at + 1 + 2) rest (o .2) (n .2))
+      rw (opening-back 0x61 0 1 0 at (xs ++ ys ++ rest) refl e (n .1), n .0, ty-back (d .type) s (o .1) depthLimit (at + 1 + 2) rest (o .2) (n .2))
       (ap (ok d) (omega (arith, length-append xs ys, length-name (d .name))))
 
   -- an edge
@@ -83,7 +84,7 @@ length-header h =
     omega (arith, length-append (xs ++ ys) zs, length-append xs ys, length-bytesOf 2 (h .definitions), length-bytesOf 2 (h .edges), length-name (h .current))
 
 -- a header
-pub header-back : (s : List ℕ) (h : Header) → h .definitions ≤ 256 → h .edges ≤ 1024 → Fits 2 (h .current) → (at : ℕ) (rest : List ℕ) → Starts s at (headerBytes h) rest → readHeader s at ≡ ok h (at + length (headerBytes h))
+pub header-back : (s : List ℕ) (h : Header) → h .definitions ≤ definitionLimit → h .edges ≤ edgeLimit → Fits 2 (h .current) → (at : ℕ) (rest : List ℕ) → Starts s at (headerBytes h) rest → readHeader s at ≡ ok h (at + length (headerBytes h))
 unfolding readHeader lookup
 header-back s h d e f at rest p =
     let xs = bytesOf 2 (h .definitions) in
@@ -94,7 +95,7 @@ header-back s h d e f at rest p =
     let n = number-next s 2 (h .definitions) (at + 1) (ys ++ (zs ++ rest)) (omega (arith, b .1)) (omega arith) q in
     let m = number-next s 2 (h .edges) (at + 1 + 2) (zs ++ rest) (n .1) (omega arith) (n .2) in
     let k = name-next s (h .current) (at + 1 + 2 + 2) rest (m .1) f (m .2) in
-    rw (opening-back s 0x60 4 1 0 at (xs ++ ys ++ zs ++ rest) refl p (omega (arith, k .1)), n .0, m .0, k .0, le-leb (h .definitions) 256 d, le-leb (h .edges) 1024 e)
+    rw (opening-back s 0x60 4 1 0 at (xs ++ ys ++ zs ++ rest) refl p (omega (arith, k .1)), n .0, m .0, k .0, le-leb (h .definitions) definitionLimit d, le-leb (h .edges) edgeLimit e)
     (ap (ok h) (omega (arith, length-header h)))
 
 -- the header of a bundle
@@ -113,7 +114,7 @@ written-read-back b o =
     let r : Starts s (0 + length xs + length ys) zs [] = follows s (0 + length xs) ys (zs ++ []) q in
     let l : 0 + length xs + length ys + length zs ≡ length s = omega (arith, length-append (xs ++ ys) zs, length-append xs ys) in
     rw (
-      le-leb (length s) 32768 (rw bundle-written at (o .size)),
+      le-leb (length s) sizeLimit (rw bundle-written at (o .size)),
       header-back s (headerOf b) (o .definitions .0) (o .edges .0) (o .current) 0 (ys ++ (zs ++ [])) p,
       list-back s readDefinition definitionBytes DefinitionOk (definition-back s) (b .definitions) (o .definitions .1) (0 + length xs) (zs ++ []) q,
       list-back s readEdge edgeBytes EdgeOk (edge-back s) (b .edges) (o .edges .1) (0 + length xs + length ys) [] r,

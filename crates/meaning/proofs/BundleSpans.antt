@@ -7,6 +7,7 @@ use mathlib.Core.List.{List, [], _∷_, _++_, append-assoc, append-nil}
 use lib.ListN.{length, getD, drop-of-length-le}
 use lib.Dec.{leb, eqb}
 use borrow.Author.Tests.{leb-true}
+use Rattle.meaning.specs.Limits.{sizeLimit, definitionLimit, edgeLimit, depthLimit}
 use Rattle.meaning.specs.Kinds.{OfRecord}
 use Rattle.meaning.specs.Kinds.{formOf, lookup}
 use Rattle.meaning.specs.Tree.{Definition, Edge, Bundle}
@@ -42,11 +43,11 @@ module _ (s : List ℕ) (bytes : Bytes s) where
       let o = went (opening 0x61 s at) _ s d n e in
       let p = opening-spans 0x61 0 1 0 refl at (o .middle) (o .value) (o .first) in
       let b = o .middle in
-      let g = went (readTy 24 s (b + 2)) _ s d n (o .then) in
+      let g = went (readTy depthLimit s (b + 2)) _ s d n (o .then) in
       settle (λ (d : Definition) n. Spans s at (0x61 ∷ nameBytes (d .name) ++ typeBytes (d .type)) n) (g .then)
       (both s at (b + 2) (g .middle) (0x61 ∷ nameBytes (little s b 2)) (typeBytes (g .value))
       (both s at b (b + 2) (0x61 ∷ []) (nameBytes (little s b 2)) (p .0) (name-spans s bytes b (p .1)))
-      (type-spans s bytes 24 (b + 2) (g .middle) (g .value) (g .first)))
+      (type-spans s bytes depthLimit (b + 2) (g .middle) (g .value) (g .first)))
 
   -- an edge
   pub edge-spans : (at n : ℕ) (x : Edge) → readEdge s at ≡ ok x n → Spans s at (edgeBytes x) n
@@ -79,11 +80,11 @@ module _ (s : List ℕ) (bytes : Bytes s) where
       parts (o .middle) (p .0) (p .1) (o .then)
     where
       parts : (b : ℕ) → Spans s at (0x60 ∷ []) b → b + 6 ≤ length s
-          → after (check (leb (little s b 2) 256 && leb (little s (b + 2) 2) 1024) 5 s (b + 2 + 2 + 2)) (λ u t j. ok (record { definitions = little s b 2; edges = little s (b + 2) 2; current = little s (b + 2 + 2) 2 }) j) s ≡ ok h n
+          → after (check (leb (little s b 2) definitionLimit && leb (little s (b + 2) 2) edgeLimit) 5 s (b + 2 + 2 + 2)) (λ u t j. ok (record { definitions = little s b 2; edges = little s (b + 2) 2; current = little s (b + 2 + 2) 2 }) j) s ≡ ok h n
           → Spans s at (0x60 ∷ bytesOf 2 (h .definitions) ++ bytesOf 2 (h .edges) ++ nameBytes (h .current)) n
       parts b p z q =
-          let c = went (check (leb (little s b 2) 256 && leb (little s (b + 2) 2) 1024) 5 s (b + 2 + 2 + 2)) _ s h n q in
-          let t = passed (leb (little s b 2) 256 && leb (little s (b + 2) 2) 1024) 5 s (b + 2 + 2 + 2) (c .value) (c .middle) (c .first) in
+          let c = went (check (leb (little s b 2) definitionLimit && leb (little s (b + 2) 2) edgeLimit) 5 s (b + 2 + 2 + 2)) _ s h n q in
+          let t = passed (leb (little s b 2) definitionLimit && leb (little s (b + 2) 2) edgeLimit) 5 s (b + 2 + 2 + 2) (c .value) (c .middle) (c .first) in
           settle (λ (h : Header) n. Spans s at (0x60 ∷ bytesOf 2 (h .definitions) ++ bytesOf 2 (h .edges) ++ nameBytes (h .current)) n) (c .then)
           (rw (t .1)
           (both s at (b + 2 + 2) (b + 2 + 2 + 2) (0x60 ∷ bytesOf 2 (little s b 2) ++ bytesOf 2 (little s (b + 2) 2)) (nameBytes (little s (b + 2 + 2) 2))
@@ -136,7 +137,7 @@ joins s x y z e = append-assoc x y z ∙ sym (append-nil (x ++ (y ++ z))) ∙ sy
 
 written-law : (s : List ℕ) → Bytes s → (b : Bundle) (n : ℕ) → readBundle s ≡ ok b n → writtenBytes b ≡ s
 unfolding readBundle readRecords writtenBytes
-written-law s bytes b n e = records (leb (length s) 32768) e
+written-law s bytes b n e = records (leb (length s) sizeLimit) e
   where
     joined : (h : Header) (r : List Definition × List Edge) (m i : ℕ)
         → Spans s 0 (0x60 ∷ bytesOf 2 (h .definitions) ++ bytesOf 2 (h .edges) ++ nameBytes (h .current)) m

@@ -47,11 +47,11 @@ agree k (OfRecord before names behind) = true
 agree k Unknown = true
 
 -- a test passes at each number below n
-abbrev all : (ℕ → Bool) → ℕ → Bool
+abbrev pub all : (ℕ → Bool) → ℕ → Bool
 all f zero = true
 all f (suc n) = f n && all f n
 
-all-at : (f : ℕ → Bool) (n k : ℕ) → T (all f n) → k < n → T (f k)
+pub all-at : (f : ℕ → Bool) (n k : ℕ) → T (all f n) → k < n → T (f k)
 all-at f zero k t h = absurd (not-suc-le-zero h)
 all-at f (suc n) k t h =
     ⊎-elim (λ e. rw e (and-0 (f n) (all f n) t)) (λ l. all-at f n k (and-1 (f n) (all f n) t) l) (last h)

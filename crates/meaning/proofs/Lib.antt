@@ -8,6 +8,10 @@ pub mod BundleSpans
 pub mod ExprBack
 pub mod TypeBack
 pub mod BundleBack
+pub mod ReadWithin
+pub mod Flat
+pub mod Mapped
+pub mod Acceptance
 pub mod ReadingExamples
 pub mod Order
 pub mod Walks
@@ -15,6 +19,7 @@ pub mod Pigeonhole
 pub mod ChainLaws
 pub mod ChainExamples
 pub mod Examples
+pub mod RenumberingExamples
 pub mod Lists
 pub mod Lookup
 pub mod Circle

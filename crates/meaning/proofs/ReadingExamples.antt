@@ -2,6 +2,7 @@
 use Prim.Native.Nat.{ℕ}
 use mathlib.Core.Path.{_≡_, refl}
 use mathlib.Core.List.{List, [], _∷_, _++_}
+use Rattle.meaning.specs.Limits.{depthLimit}
 use Rattle.meaning.specs.Kinds.{lookup}
 use Rattle.meaning.specs.Tree.{Bundle, literal, array, primitive}
 use lib.ListN.{replicate}
@@ -41,16 +42,16 @@ seen (ok a at) = (0, at)
 seen (refused k) = (1, k)
 
 -- 24 levels are taken, and a 25th is fault 6
-pub deep-enough : seen (readExpr 24 (tower 23) 0) ≡ (0, 25)
+pub deep-enough : seen (readExpr depthLimit (tower 23) 0) ≡ (0, 25)
 unfolding readExpr exprAfter exprBody due little lookup
 deep-enough = refl
 
-pub too-deep : seen (readExpr 24 (tower 24) 0) ≡ (1, 6)
+pub too-deep : seen (readExpr depthLimit (tower 24) 0) ≡ (1, 6)
 unfolding readExpr exprAfter exprBody due little lookup
 too-deep = refl
 
 -- a kind that may not stand there is fault 3, before its missing body
-pub stranger : seen (readExpr 24 (0x40 ∷ []) 0) ≡ (1, 3)
+pub stranger : seen (readExpr depthLimit (0x40 ∷ []) 0) ≡ (1, 3)
 unfolding readExpr exprAfter exprBody due little lookup
 stranger = refl
 

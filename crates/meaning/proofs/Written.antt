@@ -125,6 +125,7 @@ headed k a w n d e = ap (k ∷_) (both-written (headItems a w n) d (head-written
 
 mutual
   unfolding typeItems typeBytes nameBytes
+
   type-written : (t : Ty) → bytes (typeItems t) ≡ typeBytes t
   type-written (primitive k) = refl
   type-written (typeRef x) = refl

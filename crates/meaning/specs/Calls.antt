@@ -1,6 +1,6 @@
 -- What a call answers, and what it leaves in the places that it is lent (document 01, "Bundle records" and its table of refusals).
 use Prim.Native.Nat.{ℕ}
-use mathlib.Core.Bool.{cond}
+use mathlib.Core.Bool.{false, cond}
 use mathlib.Core.List.{List, [], _++_}
 use mathlib.Core.Path.{_≡_}
 use lib.Dec.{leb}
@@ -9,6 +9,8 @@ use Rattle.meaning.specs.Tree.{Bundle}
 use Rattle.meaning.specs.Reader.{Read, ok, refused}
 use Rattle.meaning.specs.ReadBundle.{readBundle}
 use Rattle.meaning.specs.Circle.{circles}
+use Rattle.meaning.specs.Encoding.{bundleBytes}
+use Rattle.meaning.specs.Within.{BundleOk}
 
 -- a call is accepted with the length of its result, or refused with a number
 pub data Answer : Type 0 where
@@ -47,3 +49,10 @@ onBundle f s = dueOf f (readBundle s)
 -- what is due to a call that only asks whether the bytes are accepted
 unfoldable pub acceptance : List ℕ → Outcome
 acceptance s = onBundle (λ b. result []) s
+
+-- the bytes are those of a tree within the limits that does not circle
+pub record Accepted (s : List ℕ) : Type 0 where
+  pub tree : Bundle
+  pub within : BundleOk tree
+  pub straight : circles tree ≡ false
+  pub encoded : bundleBytes tree ≡ s

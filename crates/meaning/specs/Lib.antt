@@ -17,4 +17,3 @@ pub mod Chain
 pub mod Violations
 pub mod Report
 pub mod Renumbering
-pub mod Encoded

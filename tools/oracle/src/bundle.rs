@@ -8,15 +8,15 @@ pub const DEFINITION_LIMIT: usize = 256;
 pub const EDGE_LIMIT: usize = 1_024;
 pub const DEPTH_LIMIT: usize = 24;
 
-pub const OVERLONG: Refusal = 1;
-pub const SHORT: Refusal = 2;
-pub const STRANGER: Refusal = 3;
-pub const OFF_SCALE: Refusal = 4;
-pub const CROWDED: Refusal = 5;
-pub const BURIED: Refusal = 6;
-pub const TRAILING: Refusal = 7;
-pub const CIRCLE: Refusal = 8;
-pub const NARROW: Refusal = 9;
+pub const TOO_LONG: Refusal = 1;
+pub const TOO_SHORT: Refusal = 2;
+pub const UNEXPECTED_KIND: Refusal = 3;
+pub const VALUE_OUT_OF_RANGE: Refusal = 4;
+pub const COUNT_OVER_LIMIT: Refusal = 5;
+pub const TOO_DEEP: Refusal = 6;
+pub const BYTES_LEFT: Refusal = 7;
+pub const REFERENCE_CYCLE: Refusal = 8;
+pub const OUTPUT_TOO_SMALL: Refusal = 9;
 
 /// Words of the refusals, by number.
 pub const WORDS: [&str; 10] = [

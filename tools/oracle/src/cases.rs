@@ -18,9 +18,11 @@ pub struct Case {
 /// At least `count` cases; more only where fewer could not show everything.
 pub fn cases(seed: u64, count: usize) -> Vec<Case> {
     let mut random = Random::new(seed);
-    let mut list = List::default();
-    list.violations_missing = [EACH_VIOLATION; 9];
-    list.refusals_missing = [EACH_REFUSAL; 9];
+    let mut list = List {
+        violations_missing: [EACH_VIOLATION; 9],
+        refusals_missing: [EACH_REFUSAL; 9],
+        ..List::default()
+    };
     list.violations_missing[0] = 0;
     list.refusals_missing[0] = 0;
     for extra in 1..=EACH_REFUSAL {

@@ -45,6 +45,18 @@ pub struct Tally {
     pub features: [usize; FEATURES.len()],
 }
 
+/// Ranges by which chain lengths are printed.
+const LENGTHS: [(usize, usize); 8] = [
+    (1, 1),
+    (2, 2),
+    (3, 3),
+    (4, 4),
+    (5, 8),
+    (9, 16),
+    (17, 64),
+    (65, 1_025),
+];
+
 /// Features that accepted bundles are counted by.
 const FEATURES: [&str; 8] = [
     "a name defined twice",
@@ -139,15 +151,16 @@ impl fmt::Display for Tally {
                 "violation type {kind}         {all} in {bundles} bundles"
             )?;
         }
-        for number in 1..10 {
-            let word = WORDS[number];
+        for (number, word) in WORDS.iter().enumerate().skip(1) {
             writeln!(out, "refusal {number} {word:<14} {}", self.refusals[number])?;
         }
         write!(out, "chain lengths           ")?;
-        for (length, count) in &self.chain_lengths {
-            write!(out, " {length}:{count}")?;
+        for (low, high) in LENGTHS {
+            let count: usize = self.chain_lengths.range(low..=high).map(|(_, n)| n).sum();
+            write!(out, " {low} to {high}: {count};")?;
         }
-        Ok(())
+        let longest = self.chain_lengths.keys().next_back();
+        write!(out, " longest {}", longest.unwrap_or(&0))
     }
 }
 

@@ -17,14 +17,14 @@ pub fn damaged(random: &mut Random) -> Vec<u8> {
         generate::any(random)
     };
     let mut bytes = match random.below(12) {
-        0 => encode(&with_circle(random, &bundle)),
+        0 => encode(&with_cycle(random, &bundle)),
         1 => encode(&too_deep(random, &bundle)),
         _ => with_faults(random, &bundle),
     };
     match random.below(30) {
         0..=3 => bytes.truncate(random.below(bytes.len() + 1)),
-        4..=6 => (0..random.between(1, 4)).for_each(|_| bytes.push(random.next() as u8)),
-        7 => bytes.resize(BYTE_LIMIT + random.between(0, 3), random.next() as u8),
+        4..=6 => (0..random.between(1, 4)).for_each(|_| bytes.push(random.bits() as u8)),
+        7 => bytes.resize(BYTE_LIMIT + random.between(0, 3), random.bits() as u8),
         _ => {}
     }
     bytes
@@ -58,7 +58,7 @@ fn at_mark(random: &mut Random, marks: &[(usize, Mark)], wanted: Mark, bytes: &m
     if places.is_empty() {
         return;
     }
-    let wide = random.next() as u8;
+    let wide = random.bits() as u8;
     let at = random.pick(&places);
     bytes[at] = match wanted {
         Mark::Kind => random.pick(&[random_kind(wide), random_kind(wide), wide]),
@@ -94,7 +94,7 @@ fn random_count(old: u16) -> u16 {
 }
 
 /// Makes definitions lead to one another in a ring, mostly from within types.
-fn with_circle(random: &mut Random, bundle: &Bundle) -> Bundle {
+fn with_cycle(random: &mut Random, bundle: &Bundle) -> Bundle {
     let mut result = bundle.clone();
     let count = random.between(1, result.definitions.len().clamp(1, 4));
     let names: Vec<Name> = result.definitions.iter().map(|d| d.name).collect();

@@ -1,7 +1,7 @@
 //! Random bundles, weighted so that every kind of violation comes up often.
 //!
 //! While a bundle is made, names are small numbers and a definition only leads
-//! to lower ones, so there is no circle; at the end the names are exchanged for
+//! to lower ones, so there is no cycle; at the end the names are replaced by
 //! others. Field names, edges and references share that one small pool: most of
 //! what is to be compared hangs on names that happen to be equal.
 
@@ -21,11 +21,11 @@ pub fn valid(random: &mut Random) -> Bundle {
     }
 }
 
-/// A bundle that may have a circle or pass a limit.
+/// A bundle that may have a cycle or pass a limit.
 pub fn any(random: &mut Random) -> Bundle {
     let form = random.below(1_000);
     let (pool, definitions, edges) = match form {
-        0..=699 => (random.between(2, 6), random.between(1, 5), random.below(9)),
+        0..=699 => (random.between(2, 6), random.below(6), random.below(9)),
         700..=899 => (
             random.between(4, 15),
             random.between(3, 20),
@@ -37,65 +37,68 @@ pub fn any(random: &mut Random) -> Bundle {
             random.between(1, 6),
             random.below(20),
         ),
-        _ => (
-            random.between(20, 90),
-            random.between(200, 256),
-            random.between(900, 1_024),
-        ),
+        _ => large(random),
     };
     let deep = random.chance(8);
     let mut maker = Maker {
         pool: pool as Name,
-        fuel: 30 + random.below(120),
+        nodes_left: 30 + random.below(120),
         random,
     };
     let mut bundle = maker.bundle(definitions, edges);
-    if deep {
+    if deep && definitions > 0 {
         maker.deepen(&mut bundle);
     }
     match form {
-        980..=995 => maker.long_line(&mut bundle),
+        980..=995 => maker.add_long_path(&mut bundle),
         996.. => {
             let short_by = maker.random.pick(&[0, 0, 0, 1, 2, 3, 100, 3_000]);
             pad(&mut bundle, BYTE_LIMIT - short_by);
         }
         _ => {}
     }
-    exchange(random, pool as Name, &bundle)
+    permute_names(random, pool as Name, &bundle)
 }
 
-/// A short bundle with one planted violation and little else.
+/// Pool, definitions and edges of a bundle near the limits.
+fn large(random: &mut Random) -> (usize, usize, usize) {
+    let definitions = random.between(200, 300).min(DEFINITION_LIMIT);
+    let edges = random.between(900, 1_200).min(EDGE_LIMIT);
+    (random.between(20, 90), definitions, edges)
+}
+
+/// A short bundle with one violation and little else.
 pub fn small(random: &mut Random) -> Bundle {
     loop {
         let pool = random.between(2, 4) as Name;
         let mut maker = Maker {
             pool,
-            fuel: 4,
+            nodes_left: 4,
             random,
         };
         let mut bundle = Bundle {
             current: maker.name(),
             ..Bundle::default()
         };
-        maker.plant(&mut bundle);
+        maker.add_violation(&mut bundle);
         for _ in 0..maker.random.below(3) {
             maker.random_edge(&mut bundle);
         }
-        let bundle = exchange(random, pool, &bundle);
+        let bundle = permute_names(random, pool, &bundle);
         if reader::read(&encode(&bundle)).is_ok() {
             return bundle;
         }
     }
 }
 
-/// Puts the names of the pool through a random exchange; 0 takes part.
-fn exchange(random: &mut Random, pool: Name, bundle: &Bundle) -> Bundle {
+/// Puts other names for those of the pool; 0 may be among either.
+fn permute_names(random: &mut Random, pool: Name, bundle: &Bundle) -> Bundle {
     let mut names: Vec<Name> = if random.chance(80) {
         (0..pool + 4).collect()
     } else {
         let mut seen = HashSet::from([0, 65_535]);
         while seen.len() < pool as usize + 4 {
-            seen.insert(random.next() as Name);
+            seen.insert(random.bits() as Name);
         }
         let mut list: Vec<Name> = seen.into_iter().collect();
         list.sort_unstable();
@@ -114,7 +117,7 @@ struct Maker<'a> {
     /// Names are 0 to `pool` - 1; a few numbers above it are never defined.
     pool: Name,
     /// Nodes that may still be made, so that no bundle grows without end.
-    fuel: usize,
+    nodes_left: usize,
     random: &'a mut Random,
 }
 
@@ -126,10 +129,10 @@ impl Maker<'_> {
         };
         while bundle.definitions.len() < definitions {
             if definitions >= 200 {
-                self.fuel = 12;
+                self.nodes_left = 12;
             }
             if self.random.chance(55) && bundle.definitions.len() + 3 <= definitions.max(3) {
-                self.plant(&mut bundle);
+                self.add_violation(&mut bundle);
             } else {
                 let name = self.name();
                 let body = self.type_node(name, 4);
@@ -139,7 +142,7 @@ impl Maker<'_> {
         while bundle.edges.len() < edges {
             self.random_edge(&mut bundle);
         }
-        bundle.edges.truncate(edges.max(8).min(EDGE_LIMIT));
+        bundle.edges.truncate(edges.clamp(8, EDGE_LIMIT));
         if self.random.chance(60) {
             self.random.shuffle(&mut bundle.definitions);
         }
@@ -151,14 +154,14 @@ impl Maker<'_> {
     }
 
     /// A second definition of a name is never led to, so it may lead anywhere.
-    /// Now and then a first one is freed too, which may close a circle.
+    /// Now and then a first one is freed too, which may close a cycle.
     fn free_later_definitions(&mut self, bundle: &mut Bundle) {
         let mut seen = HashSet::new();
-        let circles = self.random.chance(3);
+        let cycles = self.random.chance(3);
         for definition in &mut bundle.definitions {
             let later = !seen.insert(definition.name);
-            if (later && self.random.chance(40)) || (circles && self.random.chance(30)) {
-                self.fuel = 6;
+            if (later && self.random.chance(40)) || (cycles && self.random.chance(30)) {
+                self.nodes_left = 6;
                 definition.body = self.type_node(self.pool + 3, 3);
             }
         }
@@ -177,14 +180,14 @@ impl Maker<'_> {
         }
     }
 
-    fn spend(&mut self) -> bool {
-        let left = self.fuel > 0;
-        self.fuel = self.fuel.saturating_sub(1);
+    fn take_node(&mut self) -> bool {
+        let left = self.nodes_left > 0;
+        self.nodes_left = self.nodes_left.saturating_sub(1);
         left
     }
 
     fn attributes(&mut self) -> Attributes {
-        let wide = self.random.next();
+        let wide = self.random.bits();
         Attributes {
             packed: self.random.chance(30),
             aligned: self.random.pick(&[0, 0, 1, 8, wide]),
@@ -197,7 +200,7 @@ impl Maker<'_> {
 
     fn type_node(&mut self, owner: Name, levels: usize) -> Type {
         let own = self.attributes();
-        if levels == 0 || !self.spend() {
+        if levels == 0 || !self.take_node() {
             return match self.random.below(5) {
                 0 => Type::TypeRef(self.lower_name(owner)),
                 1 => Type::Struct(own, Vec::new()),
@@ -224,7 +227,7 @@ impl Maker<'_> {
     }
 
     fn member(&mut self, member_type: Type, valued: bool) -> Member {
-        let wide = self.random.next();
+        let wide = self.random.bits();
         let value = self.random.pick(&[0, 1, 2, wide]);
         Member {
             name: self.name(),
@@ -280,7 +283,7 @@ impl Maker<'_> {
     }
 
     fn expr(&mut self, levels: usize) -> Expr {
-        if levels == 0 || !self.spend() {
+        if levels == 0 || !self.take_node() {
             return self.leaf();
         }
         match self.random.below(10) {
@@ -301,7 +304,7 @@ impl Maker<'_> {
         match self.random.below(10) {
             0..=2 => {
                 let kind = self.random.between(1, 8) as u8;
-                let bits = self.random.next() >> (64 - 8 * literal_width(kind));
+                let bits = self.random.bits() >> (64 - 8 * literal_width(kind));
                 Expr::Literal(kind, bits)
             }
             3 => Expr::Sizeof(self.name()),
@@ -313,7 +316,7 @@ impl Maker<'_> {
     /// An expression that holds the given reference among other things.
     fn expr_with(&mut self, path: Vec<Name>) -> Expr {
         let mut expr = Expr::FieldRef(path);
-        while self.random.chance(25) && self.spend() {
+        while self.random.chance(25) && self.take_node() {
             let other = Box::new(self.expr(1));
             let kind = self.random.between(0x10, 0x23) as u8;
             expr = match self.random.below(3) {
@@ -341,7 +344,7 @@ impl Maker<'_> {
     }
 
     /// Edges from one name to another over some others, mostly complete.
-    fn line(&mut self, bundle: &mut Bundle, from: Name, to: Name) {
+    fn add_path(&mut self, bundle: &mut Bundle, from: Name, to: Name) {
         let mut at = from;
         for _ in 0..self.random.pick(&[0, 0, 1, 1, 2, 3]) {
             let next = self.name();
@@ -354,7 +357,7 @@ impl Maker<'_> {
     }
 
     /// Edges over all names of the pool, so that chains grow long.
-    fn long_line(&mut self, bundle: &mut Bundle) {
+    fn add_long_path(&mut self, bundle: &mut Bundle) {
         for name in 1..self.pool {
             self.edge(bundle, name - 1, name);
         }
@@ -366,23 +369,23 @@ impl Maker<'_> {
     }
 
     /// Definitions that nearly always break one rule, of types 1 to 8.
-    fn plant(&mut self, bundle: &mut Bundle) {
+    fn add_violation(&mut self, bundle: &mut Bundle) {
         let low = self.random.below(self.pool as usize - 1) as Name;
         let high = self
             .random
             .between(low as usize + 1, self.pool as usize - 1) as Name;
         match self.random.below(8) {
-            0 => self.plant_enum_forward(bundle, low, high),
-            1 => self.plant_enum_cycle(bundle, high),
-            2 => self.plant_array_cycle(bundle, high),
-            3 => self.plant_field_forward(bundle, low, high),
-            4 => self.plant_variable_element(bundle, low, high),
-            5 => self.plant_jagged_reference(bundle, low, high),
+            0 => self.add_enum_forward(bundle, low, high),
+            1 => self.add_enum_cycle(bundle, high),
+            2 => self.add_array_cycle(bundle, high),
+            3 => self.add_field_forward(bundle, low, high),
+            4 => self.add_variable_element(bundle, low, high),
+            5 => self.add_jagged_reference(bundle, low, high),
             6 => {
                 let element = self.primitive();
-                self.plant_jagged(bundle, high, element);
+                self.add_jagged(bundle, high, element);
             }
-            _ => self.plant_nested_jagged(bundle, low, high),
+            _ => self.add_nested_jagged(bundle, low, high),
         }
     }
 
@@ -413,7 +416,7 @@ impl Maker<'_> {
         vec![owner, field]
     }
 
-    fn plant_enum_forward(&mut self, bundle: &mut Bundle, low: Name, high: Name) {
+    fn add_enum_forward(&mut self, bundle: &mut Bundle, low: Name, high: Name) {
         let field = self.name();
         let path = self.own_path(bundle, high, field);
         let tag = self.expr_with(path);
@@ -423,7 +426,7 @@ impl Maker<'_> {
         self.define(bundle, high, body);
     }
 
-    fn plant_enum_cycle(&mut self, bundle: &mut Bundle, name: Name) {
+    fn add_enum_cycle(&mut self, bundle: &mut Bundle, name: Name) {
         let path = self.path();
         let start = if path.len() == 1 {
             bundle.current
@@ -433,10 +436,10 @@ impl Maker<'_> {
         let tag = self.expr_with(path);
         let body = Type::Enum(self.attributes(), tag, self.members(name, 2, true));
         self.define(bundle, name, body);
-        self.line(bundle, start, name);
+        self.add_path(bundle, start, name);
     }
 
-    fn plant_array_cycle(&mut self, bundle: &mut Bundle, name: Name) {
+    fn add_array_cycle(&mut self, bundle: &mut Bundle, name: Name) {
         let path = self.path();
         let start = if path.len() == 1 {
             bundle.current
@@ -447,10 +450,10 @@ impl Maker<'_> {
         let element = Box::new(self.type_node(name, 1));
         let body = Type::Array(self.attributes(), self.random.chance(20), size, element);
         self.define(bundle, name, body);
-        self.line(bundle, start, name);
+        self.add_path(bundle, start, name);
     }
 
-    fn plant_field_forward(&mut self, bundle: &mut Bundle, low: Name, high: Name) {
+    fn add_field_forward(&mut self, bundle: &mut Bundle, low: Name, high: Name) {
         let field = self.name();
         let path = self.own_path(bundle, high, field);
         let expr = self.expr_with(path);
@@ -472,7 +475,7 @@ impl Maker<'_> {
         self.define(bundle, high, body);
     }
 
-    fn plant_variable_element(&mut self, bundle: &mut Bundle, low: Name, high: Name) {
+    fn add_variable_element(&mut self, bundle: &mut Bundle, low: Name, high: Name) {
         let body = self.type_node(low, 2);
         self.define(bundle, low, body);
         let own = self.attributes();
@@ -487,19 +490,19 @@ impl Maker<'_> {
         self.define(bundle, high, body);
     }
 
-    fn plant_jagged_reference(&mut self, bundle: &mut Bundle, low: Name, high: Name) {
+    fn add_jagged_reference(&mut self, bundle: &mut Bundle, low: Name, high: Name) {
         let body = self.type_node(low, 1);
         self.define(bundle, low, body);
-        self.plant_jagged(bundle, high, Type::TypeRef(low));
+        self.add_jagged(bundle, high, Type::TypeRef(low));
     }
 
-    fn plant_jagged(&mut self, bundle: &mut Bundle, name: Name, element: Type) {
+    fn add_jagged(&mut self, bundle: &mut Bundle, name: Name, element: Type) {
         let size = self.leaf();
         let body = Type::Array(self.attributes(), true, size, Box::new(element));
         self.define(bundle, name, body);
     }
 
-    fn plant_nested_jagged(&mut self, bundle: &mut Bundle, low: Name, high: Name) {
+    fn add_nested_jagged(&mut self, bundle: &mut Bundle, low: Name, high: Name) {
         let own = self.attributes();
         let inner = Type::Array(own, true, self.leaf(), Box::new(self.primitive()));
         let wrapped = match self.random.below(4) {
@@ -511,9 +514,9 @@ impl Maker<'_> {
         let list = vec![self.member(wrapped, false)];
         if self.random.chance(50) {
             self.define(bundle, low, Type::Struct(own, list));
-            self.plant_jagged(bundle, high, Type::TypeRef(low));
+            self.add_jagged(bundle, high, Type::TypeRef(low));
         } else {
-            self.plant_jagged(bundle, high, Type::Struct(own, list));
+            self.add_jagged(bundle, high, Type::Struct(own, list));
         }
     }
 
@@ -524,7 +527,7 @@ impl Maker<'_> {
         let old = bundle.definitions[place].body.clone();
         let target = self.random.pick(&[24, 24, 24, 23, 20, 12]);
         let mut body = old;
-        self.fuel = 30;
+        self.nodes_left = 30;
         while type_depth(&body) < target {
             body = self.wrap(owner, body, target);
         }

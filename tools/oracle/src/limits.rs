@@ -18,17 +18,17 @@ pub fn edge_cases() -> Vec<Case> {
     last_level_cases(&mut list);
     count_cases(&mut list);
     length_cases(&mut list);
-    short_cases(&mut list);
-    stranger_cases(&mut list);
-    scale_cases(&mut list);
-    circle_cases(&mut list);
+    truncation_cases(&mut list);
+    kind_cases(&mut list);
+    range_cases(&mut list);
+    cycle_cases(&mut list);
     order_cases(&mut list);
     size_test_cases(&mut list);
     chain_cases(&mut list);
     enum_cases(&mut list);
     struct_cases(&mut list);
     report_length_cases(&mut list);
-    heavy_cases(&mut list);
+    sharing_cases(&mut list);
     list.into_iter().map(case).collect()
 }
 
@@ -165,10 +165,10 @@ fn count_cases(list: &mut Vec<Vec<u8>>) {
         list.push(bytes(vec![(1, BYTE); count as usize]));
     }
     for count in [1_024, 1_025] {
-        let line: Vec<(Name, Name)> = (0..count).map(|name| (name, name + 1)).collect();
+        let path_edges: Vec<(Name, Name)> = (0..count).map(|name| (name, name + 1)).collect();
         list.push(encode(&tree(
             vec![(1_024, array(reference(&[0, 1]), BYTE))],
-            &line,
+            &path_edges,
         )));
     }
     let edges = vec![(1, 2); 1_024];
@@ -210,7 +210,7 @@ fn sample() -> Vec<u8> {
 }
 
 /// Every truncation of one bundle, the empty one first.
-fn short_cases(list: &mut Vec<Vec<u8>>) {
+fn truncation_cases(list: &mut Vec<Vec<u8>>) {
     let whole = sample();
     for length in 0..=whole.len() {
         list.push(whole[..length].to_vec());
@@ -223,7 +223,7 @@ fn short_cases(list: &mut Vec<Vec<u8>>) {
 }
 
 /// Every kind byte as a header, a definition, a type, an expression, a member.
-fn stranger_cases(list: &mut Vec<Vec<u8>>) {
+fn kind_cases(list: &mut Vec<Vec<u8>>) {
     let array_bytes = bytes(vec![(1, array(literal(), BYTE))]);
     let struct_bytes = bytes(vec![(1, in_struct(BYTE))]);
     let edge_bytes = encode(&tree(Vec::new(), &[(1, 2)]));
@@ -239,7 +239,7 @@ fn stranger_cases(list: &mut Vec<Vec<u8>>) {
     }
 }
 
-fn scale_cases(list: &mut Vec<Vec<u8>>) {
+fn range_cases(list: &mut Vec<Vec<u8>>) {
     let groups = [
         structure(Vec::new()),
         Type::Union(PLAIN, Vec::new()),
@@ -263,7 +263,7 @@ fn scale_cases(list: &mut Vec<Vec<u8>>) {
     }
 }
 
-fn circle_cases(list: &mut Vec<Vec<u8>>) {
+fn cycle_cases(list: &mut Vec<Vec<u8>>) {
     let to = Type::TypeRef;
     list.push(bytes(vec![(1, to(1))]));
     list.push(bytes(vec![(0, to(0))]));
@@ -277,7 +277,7 @@ fn circle_cases(list: &mut Vec<Vec<u8>>) {
     list.push(bytes(vec![(1, Type::Union(PLAIN, vec![member(2, to(1))]))]));
     list.push(bytes(vec![(1, enumeration(literal(), vec![to(1)]))]));
     list.push(bytes(vec![(1, array(literal(), to(1)))]));
-    // None of these is a circle: later definitions are never led to, and
+    // None of these is a cycle: later definitions are never led to, and
     // Sizeof, Alignof and FieldRef do not lead.
     list.push(bytes(vec![(1, BYTE), (1, to(1))]));
     list.push(bytes(vec![(1, to(2)), (2, BYTE), (2, to(1))]));
@@ -290,11 +290,11 @@ fn circle_cases(list: &mut Vec<Vec<u8>>) {
 
 /// Two faults at once, to show which one counts.
 fn order_cases(list: &mut Vec<Vec<u8>>) {
-    let circle = bytes(vec![(1, Type::TypeRef(1))]);
-    let mut trailing = circle.clone();
+    let cycle = bytes(vec![(1, Type::TypeRef(1))]);
+    let mut trailing = cycle.clone();
     trailing.push(0);
     list.push(trailing);
-    list.push(circle[..circle.len() - 1].to_vec());
+    list.push(cycle[..cycle.len() - 1].to_vec());
     let edged = encode(&tree(vec![(1, Type::TypeRef(1))], &[(1, 2)]));
     list.push(changed(&edged, edged.len() - 1, 4));
     list.push(changed(&edged, edged.len() - 6, 0x61));
@@ -303,9 +303,9 @@ fn order_cases(list: &mut Vec<Vec<u8>>) {
     list.push(both);
     // A count over its limit: before what follows, after a whole body.
     for tail in [&[][..], &[0xFF], &[0x61, 1, 0, 0x41, 2]] {
-        let mut crowded = header(257, 1_025);
-        crowded.extend(tail);
-        list.push(crowded);
+        let mut over_limit = header(257, 1_025);
+        over_limit.extend(tail);
+        list.push(over_limit);
     }
     list.push(header(257, 0)[..6].to_vec());
     list.push(changed(&header(257, 0), 0, 0x61));
@@ -452,7 +452,7 @@ fn struct_cases(list: &mut Vec<Vec<u8>>) {
 }
 
 /// One array whose report has exactly this many bytes: `count` references to
-/// names on a line of edges, so that the chains add up.
+/// names on a row of edges, so that the chains add up.
 fn report_of(length: usize, count: usize) -> Bundle {
     let names = (length - 3 - 16 * count) / 3;
     let (short, longer) = (names / count, names % count);
@@ -473,25 +473,31 @@ fn report_of(length: usize, count: usize) -> Bundle {
         }
         row = next;
     }
-    let line: Vec<(Name, Name)> = (1..last).map(|name| (name, name + 1)).collect();
-    tree(vec![(last, array(row.remove(0), BYTE))], &line)
+    let path_edges: Vec<(Name, Name)> = (1..last).map(|name| (name, name + 1)).collect();
+    tree(vec![(last, array(row.remove(0), BYTE))], &path_edges)
 }
 
 fn report_length_cases(list: &mut Vec<Vec<u8>>) {
-    for (length, count) in [(65_535, 999), (65_536, 1_000), (65_537, 1_001)] {
+    let lengths = [
+        (65_535, 999),
+        (65_536, 1_000),
+        (65_537, 1_001),
+        (110_000, 5_000),
+    ];
+    for (length, count) in lengths {
         list.push(encode(&report_of(length, count)));
     }
-    let mut circle = report_of(65_537, 1_001);
-    circle.definitions.push(Definition {
+    let mut cycle = report_of(65_537, 1_001);
+    cycle.definitions.push(Definition {
         name: 500,
         body: Type::TypeRef(500),
     });
-    list.push(encode(&circle));
+    list.push(encode(&cycle));
 }
 
 /// Sets that the original would walk for hours: pairs of fields that share a
 /// definition, forty levels high, under each of the two walks.
-fn heavy_cases(list: &mut Vec<Vec<u8>>) {
+fn sharing_cases(list: &mut Vec<Vec<u8>>) {
     let mut set = vec![(1, BYTE)];
     for name in 2..=41 {
         let below = Type::TypeRef(name - 1);

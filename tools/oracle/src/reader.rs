@@ -7,15 +7,15 @@ type Read<T> = Result<T, Refusal>;
 
 pub fn read(bytes: &[u8]) -> Read<Bundle> {
     if bytes.len() > BYTE_LIMIT {
-        return Err(OVERLONG);
+        return Err(TOO_LONG);
     }
     let mut reader = Reader { bytes, at: 0 };
     let bundle = reader.bundle()?;
     if reader.at < bytes.len() {
-        return Err(TRAILING);
+        return Err(BYTES_LEFT);
     }
-    if has_circle(&bundle) {
-        return Err(CIRCLE);
+    if has_cycle(&bundle) {
+        return Err(REFERENCE_CYCLE);
     }
     Ok(bundle)
 }
@@ -27,7 +27,7 @@ struct Reader<'a> {
 
 impl Reader<'_> {
     fn take(&mut self, count: usize) -> Read<&[u8]> {
-        let body = self.bytes.get(self.at..self.at + count).ok_or(SHORT)?;
+        let body = self.bytes.get(self.at..self.at + count).ok_or(TOO_SHORT)?;
         self.at += count;
         Ok(body)
     }
@@ -36,7 +36,7 @@ impl Reader<'_> {
         if self.take(1)?[0] == kind {
             Ok(())
         } else {
-            Err(STRANGER)
+            Err(UNEXPECTED_KIND)
         }
     }
 
@@ -51,7 +51,7 @@ impl Reader<'_> {
         let edge_count = number(&body[2..4]) as usize;
         let current = number(&body[4..6]) as Name;
         if definition_count > DEFINITION_LIMIT || edge_count > EDGE_LIMIT {
-            return Err(CROWDED);
+            return Err(COUNT_OVER_LIMIT);
         }
         let mut bundle = Bundle {
             current,
@@ -78,14 +78,14 @@ impl Reader<'_> {
             kind: body[4],
         };
         if edge.kind > 3 {
-            return Err(OFF_SCALE);
+            return Err(VALUE_OUT_OF_RANGE);
         }
         Ok(edge)
     }
 
     fn type_node(&mut self, depth: usize) -> Read<Type> {
         if depth > DEPTH_LIMIT {
-            return Err(BURIED);
+            return Err(TOO_DEEP);
         }
         let kind = self.take(1)?[0];
         match kind {
@@ -93,7 +93,7 @@ impl Reader<'_> {
             0x40 => Ok(Type::TypeRef(self.name()?)),
             0x44 => self.array(depth),
             0x41..=0x43 | 0x45 => self.group(kind, depth),
-            _ => Err(STRANGER),
+            _ => Err(UNEXPECTED_KIND),
         }
     }
 
@@ -105,7 +105,7 @@ impl Reader<'_> {
         };
         let jagged = body[9] == 1;
         if body[0] > 1 || body[9] > 1 {
-            return Err(OFF_SCALE);
+            return Err(VALUE_OUT_OF_RANGE);
         }
         let size = self.expr(depth + 1)?;
         let element = Box::new(self.type_node(depth + 1)?);
@@ -120,7 +120,7 @@ impl Reader<'_> {
         };
         let count = number(&body[9..11]);
         if body[0] > 1 {
-            return Err(OFF_SCALE);
+            return Err(VALUE_OUT_OF_RANGE);
         }
         if kind == 0x43 {
             let tag = self.expr(depth + 1)?;
@@ -154,7 +154,7 @@ impl Reader<'_> {
 
     fn expr(&mut self, depth: usize) -> Read<Expr> {
         if depth > DEPTH_LIMIT {
-            return Err(BURIED);
+            return Err(TOO_DEEP);
         }
         let kind = self.take(1)?[0];
         match kind {
@@ -172,7 +172,7 @@ impl Reader<'_> {
                 Ok(Expr::Binary(kind, left, right))
             }
             0x24..=0x27 => Ok(Expr::Unary(kind, Box::new(self.expr(depth + 1)?))),
-            _ => Err(STRANGER),
+            _ => Err(UNEXPECTED_KIND),
         }
     }
 }
@@ -230,20 +230,22 @@ enum Visit {
     Done,
 }
 
-pub fn has_circle(bundle: &Bundle) -> bool {
+pub fn has_cycle(bundle: &Bundle) -> bool {
     let leads = leads(bundle);
     let mut visits = vec![Visit::New; leads.len()];
-    (0..leads.len()).any(|start| closes(start, &leads, &mut visits))
+    (0..leads.len()).any(|start| meets_open(start, &leads, &mut visits))
 }
 
 /// Depth-first visit; true when it meets a definition that is still open.
-fn closes(at: usize, leads: &[Vec<usize>], visits: &mut [Visit]) -> bool {
+fn meets_open(at: usize, leads: &[Vec<usize>], visits: &mut [Visit]) -> bool {
     match visits[at] {
         Visit::Open => return true,
         Visit::Done => return false,
         Visit::New => visits[at] = Visit::Open,
     }
-    let found = leads[at].iter().any(|next| closes(*next, leads, visits));
+    let found = leads[at]
+        .iter()
+        .any(|next| meets_open(*next, leads, visits));
     visits[at] = Visit::Done;
     found
 }

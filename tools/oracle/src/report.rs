@@ -1,6 +1,6 @@
 //! Violations and the bytes of a report.
 
-use crate::bundle::{Name, Refusal, NARROW};
+use crate::bundle::{Name, Refusal, OUTPUT_TOO_SMALL};
 
 pub const OUTPUT_LIMIT: usize = 65_536;
 
@@ -43,7 +43,7 @@ fn push_word(bytes: &mut Vec<u8>, value: usize) {
 pub fn program_bytes(outcome: Result<Vec<u8>, Refusal>) -> Vec<u8> {
     match outcome {
         Ok(report) if report.len() <= OUTPUT_LIMIT => report,
-        Ok(_) => vec![0x7E, NARROW],
+        Ok(_) => vec![0x7E, OUTPUT_TOO_SMALL],
         Err(refusal) => vec![0x7E, refusal],
     }
 }

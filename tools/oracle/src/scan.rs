@@ -23,7 +23,7 @@ enum Due {
 
 pub fn scan(bytes: &[u8]) -> Result<Scan, Refusal> {
     if bytes.len() > BYTE_LIMIT {
-        return Err(OVERLONG);
+        return Err(TOO_LONG);
     }
     let mut scan = Scan {
         names: Vec::new(),
@@ -35,10 +35,10 @@ pub fn scan(bytes: &[u8]) -> Result<Scan, Refusal> {
         at = record(bytes, at, next, &mut due, &mut scan)?;
     }
     if at != bytes.len() {
-        return Err(TRAILING);
+        return Err(BYTES_LEFT);
     }
-    if !all_settled(&scan.definitions) {
-        return Err(CIRCLE);
+    if !without_cycle(&scan.definitions) {
+        return Err(REFERENCE_CYCLE);
     }
     Ok(scan)
 }
@@ -52,15 +52,15 @@ fn record(
     scan: &mut Scan,
 ) -> Result<usize, Refusal> {
     if matches!(due, Due::Type(depth) | Due::Expr(depth) if depth > DEPTH_LIMIT) {
-        return Err(BURIED);
+        return Err(TOO_DEEP);
     }
-    let kind = *bytes.get(at).ok_or(SHORT)?;
+    let kind = *bytes.get(at).ok_or(TOO_SHORT)?;
     if !fits(due, kind) {
-        return Err(STRANGER);
+        return Err(UNEXPECTED_KIND);
     }
     let end = at + 1 + body_length(kind);
     if end > bytes.len() {
-        return Err(SHORT);
+        return Err(TOO_SHORT);
     }
     let body = &bytes[at + 1..end];
     check_values(kind, body)?;
@@ -122,18 +122,18 @@ fn name_offsets(kind: u8) -> &'static [usize] {
 }
 
 fn check_values(kind: u8, body: &[u8]) -> Result<(), Refusal> {
-    let off_scale = match kind {
+    let out_of_range = match kind {
         0x41..=0x43 | 0x45 => body[0] > 1,
         0x44 => body[0] > 1 || body[9] > 1,
         0x62 => body[4] > 3,
         _ => false,
     };
-    let crowded = kind == 0x60
+    let over_limit = kind == 0x60
         && (word(body, 0) as usize > DEFINITION_LIMIT || word(body, 2) as usize > EDGE_LIMIT);
-    if off_scale {
-        Err(OFF_SCALE)
-    } else if crowded {
-        Err(CROWDED)
+    if out_of_range {
+        Err(VALUE_OUT_OF_RANGE)
+    } else if over_limit {
+        Err(COUNT_OVER_LIMIT)
     } else {
         Ok(())
     }
@@ -166,22 +166,22 @@ fn push_following(kind: u8, body: &[u8], due: Due, stack: &mut Vec<Due>) {
     }
 }
 
-/// A definition settles once all that it leads to have settled; whatever never
-/// settles is on a circle or leads to one.
-fn all_settled(definitions: &[(Name, Vec<Name>)]) -> bool {
-    let mut settled = vec![false; definitions.len()];
+/// A definition is done once all that it leads to are done; one that never is
+/// is on a cycle or leads to one.
+fn without_cycle(definitions: &[(Name, Vec<Name>)]) -> bool {
+    let mut done = vec![false; definitions.len()];
     let place = |name: &Name| definitions.iter().position(|(other, _)| other == name);
     loop {
         let mut changed = false;
         for (index, (_, leads)) in definitions.iter().enumerate() {
-            let ready = |name: &Name| place(name).is_none_or(|found| settled[found]);
-            if !settled[index] && leads.iter().all(ready) {
-                settled[index] = true;
+            let ready = |name: &Name| place(name).is_none_or(|found| done[found]);
+            if !done[index] && leads.iter().all(ready) {
+                done[index] = true;
                 changed = true;
             }
         }
         if !changed {
-            return settled.iter().all(|done| *done);
+            return done.iter().all(|done| *done);
         }
     }
 }
