@@ -6,7 +6,6 @@ use mathlib.Core.Bool.{Bool, true, false, cond}
 use mathlib.Core.Logic.{_↔_}
 use mathlib.Core.Path.{_≡_, refl, sym, ap, _∙_}
 use mathlib.Core.List.{List, []}
-use lib.ListN.{length}
 use Rattle.meaning.specs.Tree.{Bundle}
 use Rattle.meaning.specs.Reader.{Read, ok, refused}
 use Rattle.meaning.specs.ReadBundle.{readBundle}

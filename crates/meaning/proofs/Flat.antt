@@ -8,7 +8,7 @@ use lib.ListN.{length, getD}
 use lib.Dec.{lit<}
 use Rattle.names.specs.Documents.{Item, byte, name, bytes, layout}
 use Rattle.names.specs.Records.{itemsIn, WholeIn, items, Whole}
-use Rattle.meaning.specs.Kinds.{Literal, FieldRef, Binary, Unary, Primitive, OfExpr, OfType, kinds, lookup, formOf, formParts, parts, body, widths}
+use Rattle.meaning.specs.Kinds.{kinds, lookup, formParts, parts, body, widths}
 use Rattle.meaning.specs.Lists.{flatMap}
 use Rattle.meaning.specs.Tree.{Expr, literal, fieldRef, sizeof, alignof, binary, unary, Attributes}
 use Rattle.meaning.specs.Tree.{Ty, primitive, typeRef, struct, union, enum, array, sizeUnion, Member, member, Members, none, more, Definition, Edge, Bundle}

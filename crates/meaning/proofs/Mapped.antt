@@ -9,7 +9,7 @@ use Rattle.names.specs.Records.{items, mapBytes}
 use Rattle.meaning.specs.Kinds.{body, widths}
 use Rattle.meaning.specs.Lists.{flatMap}
 use Rattle.meaning.specs.Tree.{Expr, literal, fieldRef, sizeof, alignof, binary, unary, Attributes}
-use Rattle.meaning.specs.Tree.{Ty, primitive, typeRef, struct, union, enum, array, sizeUnion, Member, member, Members, none, more, Definition, Edge, Bundle}
+use Rattle.meaning.specs.Tree.{Ty, primitive, typeRef, struct, union, enum, array, sizeUnion, Member, member, Members, none, more, Bundle}
 use Rattle.meaning.specs.Encoding.{numberItems, exprItems, memberCount, headItems, typeItems, memberItems, membersItems, definitionItems, edgeItems, bundleItems, bundleBytes}
 use Rattle.meaning.specs.Renumbering.{exprNames, tyNames, memberNames, membersNames, bundleNames, mapExpr, mapTy, mapMember, mapMembers, mapDefinition, mapEdge, mapBundle}
 use Rattle.meaning.specs.Within.{BundleOk}

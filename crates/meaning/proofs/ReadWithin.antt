@@ -1,5 +1,5 @@
 -- What is read is within the limits: its numbers fit their bytes, its kinds lie in their ranges, its depth and counts are allowed.
-use Prim.Native.Nat.{ℕ, zero, suc, _+_, _-_, _*_, _^_, _≤_, _<_}
+use Prim.Native.Nat.{ℕ, zero, suc, _+_, _-_, _*_, _≤_, _<_}
 use native.Mathlib.Omega.{arith}
 use mathlib.Core.Bool.{Bool, true, false, cond, _&&_}
 use mathlib.Core.Path.{_≡_, refl, ap, subst}
@@ -11,7 +11,7 @@ use Rattle.meaning.specs.Limits.{sizeLimit, definitionLimit, edgeLimit, 
 use Rattle.meaning.specs.Kinds.{ExprForm, Literal, FieldRef, Sizeof, Alignof, Binary, Unary}
 use Rattle.meaning.specs.Kinds.{TypeForm, Primitive, TypeRef, Struct, Union, Enum, Array, SizeUnion}
 use Rattle.meaning.specs.Kinds.{Form, OfExpr, OfType, OfMember, OfRecord, Unknown, formOf, lookup, widths}
-use Rattle.meaning.specs.Tree.{Expr, Ty, Attributes, Member, Members, none, more, Definition, Edge, Bundle}
+use Rattle.meaning.specs.Tree.{Expr, Ty, Member, Members, none, more, Definition, Edge, Bundle}
 use Rattle.meaning.specs.Reader.{ok, refused, Reader, after, due, number, check, many, little}
 use Rattle.meaning.specs.ReadExpr.{body, readExpr, exprAfter, exprBody, kind}
 use Rattle.meaning.specs.ReadType.{Head, head, memberBody, memberHead, readMember, readMembers, Group, readGroup, readEnum, arrayHead, readArray, typeBody, typeAfter, readTy}
@@ -20,7 +20,7 @@ use Rattle.meaning.specs.Encoding.{Bytes, memberCount, bundleBytes}
 use Rattle.meaning.specs.Within.{Fits, Each, Between, ExprOk, exprDepth, AttributesOk, TyOk, MemberOk, MembersOk, tyDepth, memberDepth, membersDepth, DefinitionOk, EdgeOk, BundleOk}
 use Rattle.meaning.proofs.Readings.{went, there}
 use Rattle.meaning.proofs.KindTable.{and-0, and-1}
-use Rattle.meaning.proofs.ExprSpans.{agree, agrees, all-at, all, little-fits, kind-spans, settle, no}
+use Rattle.meaning.proofs.ExprSpans.{agree, agrees, all-at, little-fits, kind-spans, settle, no}
 use Rattle.meaning.proofs.TypeSpans.{passed}
 use Rattle.meaning.proofs.BundleSpans.{bundle-law}
 

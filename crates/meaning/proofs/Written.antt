@@ -92,10 +92,10 @@ bytes-append (byte b ∷ d) e = ap (b ∷_) (bytes-append d e)
 bytes-append (name n ∷ d) e = ap (λ l. n % 256 ∷ n / 256 ∷ l) (bytes-append d e)
 
 -- two lists of items, one after the other
-both-written : (d e : List Item) {x y : List ℕ} → bytes d ≡ x → bytes e ≡ y → bytes (d ++ e) ≡ x ++ y
+pub both-written : (d e : List Item) {x y : List ℕ} → bytes d ≡ x → bytes e ≡ y → bytes (d ++ e) ≡ x ++ y
 both-written d e p q = bytes-append d e ∙ ap₂ _++_ p q
 
-number-written : (w v : ℕ) → bytes (numberItems w v) ≡ bytesOf w v
+pub number-written : (w v : ℕ) → bytes (numberItems w v) ≡ bytesOf w v
 unfolding numberItems bytesOf
 number-written zero v = refl
 number-written (suc w) v = ap (v % 256 ∷_) (number-written w (v / 256))

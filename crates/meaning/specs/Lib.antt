@@ -11,6 +11,7 @@ pub mod Lists
 pub mod Lookup
 pub mod Circle
 pub mod Calls
+pub mod Writing
 pub mod References
 pub mod Sizes
 pub mod Chain

@@ -4,7 +4,7 @@
 use crate::bundle::*;
 use crate::random::Random;
 use crate::report::{program_bytes, report_bytes, Violation};
-use crate::{damage, generate, original, reader, reference, scan, work};
+use crate::{damage, generate, limits, original, reader, reference, scan, work};
 use std::collections::BTreeMap;
 use std::fmt;
 
@@ -60,7 +60,7 @@ const LENGTHS: [(usize, usize); 8] = [
 /// Features that accepted bundles are counted by.
 const FEATURES: [&str; 8] = [
     "a name defined twice",
-    "name 0 as definition or field",
+    "name 0 as definition or member",
     "current name set",
     "a group without members",
     "depth 24",
@@ -181,10 +181,11 @@ fn equal(
     })
 }
 
-/// Compares the original with the second reading on `count` accepted bundles
-/// that the original can answer in time, and the two readers on a damaged
-/// bundle after each of them.
+/// Compares the original with the second reading on the limit cases and on
+/// `count` accepted bundles that the original can answer in time, and the two
+/// readers on a damaged bundle after each of them.
 pub fn compare_readings(seed: u64, count: usize) -> Result<Tally, Difference> {
+    compare_limits(&mut Random::new(seed))?;
     let mut random = Random::new(seed);
     let mut tally = Tally::default();
     while tally.accepted < count {
@@ -204,6 +205,20 @@ pub fn compare_readings(seed: u64, count: usize) -> Result<Tally, Difference> {
         }
     }
     Ok(tally)
+}
+
+/// The hand-made cases, which are not counted.
+fn compare_limits(random: &mut Random) -> Result<(), Difference> {
+    let mut uncounted = Tally::default();
+    for case in limits::edge_cases() {
+        compare_refusals(&case.bundle, &mut uncounted)?;
+        if let Ok(bundle) = reader::read(&case.bundle) {
+            if work::within_limit(&bundle) {
+                compare_one(random, &bundle, &mut uncounted)?;
+            }
+        }
+    }
+    Ok(())
 }
 
 fn compare_one(random: &mut Random, bundle: &Bundle, tally: &mut Tally) -> Result<(), Difference> {
