@@ -7,7 +7,8 @@ use crate::reader::first_places;
 use crate::reference::{references, references_in_type};
 use std::collections::{HashMap, HashSet};
 
-/// Bundles above this are left out of runs of the original: about 0.1 s.
+/// Bundles above this are left out of runs of the original. Near it, random
+/// bundles took 15 ms at most.
 pub const STEP_LIMIT: u64 = 10_000_000;
 
 pub fn within_limit(bundle: &Bundle) -> bool {
