@@ -134,10 +134,13 @@ module _ {d at : ℕ} {s : List ℕ} {f : Form} (o : Opened d at s f) (r : Reads
   unfolding typeBody
   primitive-tree p = rw (after-kind o Primitive p)
 
+  pub typeRef-reads : f ≡ OfType TypeRef → Reads (body 2 s (at + 1))
+  unfolding typeBody
+  typeRef-reads p = first-read s _ (body 2 s (at + 1)) (body-reads TypeRef p)
+
   pub typeRef-tree : f ≡ OfType TypeRef → typeAt d s at ≡ typeRef (valueOr 0 (body 2 s (at + 1)))
   unfolding typeBody
-  typeRef-tree p =
-      rw (after-kind o TypeRef p) (made-value s typeRef 0 (primitive 0) (body 2 s (at + 1)) (first-read s _ (body 2 s (at + 1)) (body-reads TypeRef p)))
+  typeRef-tree p = rw (after-kind o TypeRef p) (made-value s typeRef 0 (primitive 0) (body 2 s (at + 1)) (typeRef-reads p))
 
   pub struct-reads : f ≡ OfType Struct → Reads (readGroup (readTy (d - 1)) 0x50 s (at + 1))
   unfolding typeBody
