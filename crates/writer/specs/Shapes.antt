@@ -1,16 +1,16 @@
 -- What the writer's shapes stand for: the fields of a record's body (the meaning's Writing.antt), four places for them.
-use Prim.Native.Nat.{ℕ, _-_, _^_, _≤_}
-use mathlib.Core.Logic.{_⊎_}
-use mathlib.Core.Path.{_≡_}
+use Prim.Native.Nat.{ℕ, _-_, _^_}
+use mathlib.Core.Bool.{Bool, true, _||_}
 use mathlib.Core.List.{List, [], _∷_}
 use mathlib.Core.Option.{Option, none, some}
-use Rattle.bundle.specs.declared.ExprForm.{ExprForm}
-use Rattle.bundle.specs.declared.ExprForm.the-variants.{Literal, FieldRef, Sizeof, Alignof, Binary, Unary}
+use lib.Dec.{eqb}
+use Rattle.meaning.specs.Kinds.{Literal, FieldRef, Sizeof, Alignof, Binary, Unary}
+use Rattle.meaning.specs.Kinds.{Form, OfExpr, OfType, OfMember, OfRecord, Unknown}
 use Rattle.meaning.specs.Writing.{Field, numeric, named, most, fault}
 use Rattle.writer.specs.declared.Part.{Part}
 use Rattle.writer.specs.declared.Shape.{Shape}
 use Rattle.writer.specs.declared.Shaped.{Shaped}
-use Rattle.writer.specs.declared.Shaped.the-variants.{Body, Unknown}
+use Rattle.writer.specs.declared.Shaped.the-variants.{Body, None}
 
 -- the bytes of a field
 abbrev pub width : Field → ℕ
@@ -47,18 +47,29 @@ shapeOf fs =
 
 -- the answer for the fields of a kind
 unfoldable pub shapedOf : Option (List Field) → Shaped
-shapedOf none = Unknown
+shapedOf none = None
 shapedOf (some fs) = Body (shapeOf fs)
 
--- the widths of literals
-abbrev pub isWidth : ℕ → Type 0
-isWidth w = (w ≡ 1) ⊎ (w ≡ 2) ⊎ (w ≡ 4) ⊎ (w ≡ 8)
+-- n is one of these four
+abbrev pub oneOf : ℕ → ℕ → ℕ → ℕ → ℕ → Bool
+oneOf a b c d n = eqb n a || (eqb n b || (eqb n c || eqb n d))
 
--- the form's numbers are those of some kind: a literal's width, one to four names
-abbrev pub ofKind : ExprForm → Type 0
-ofKind (Literal w) = isWidth w
-ofKind (FieldRef n) = (1 ≤ n) × (n ≤ 4)
-ofKind Sizeof = Unit {0}
-ofKind Alignof = Unit {0}
-ofKind Binary = Unit {0}
-ofKind Unary = Unit {0}
+-- the bytes of a literal, and the names of a path
+abbrev pub isWidth : ℕ → Bool
+isWidth w = oneOf 1 2 4 8 w
+
+abbrev pub isCount : ℕ → Bool
+isCount n = oneOf 1 2 3 4 n
+
+-- the numbers of a form are those of some kind
+abbrev pub sound : Form → Bool
+sound (OfExpr (Literal w)) = isWidth w
+sound (OfExpr (FieldRef n)) = isCount n
+sound (OfExpr Sizeof) = true
+sound (OfExpr Alignof) = true
+sound (OfExpr Binary) = true
+sound (OfExpr Unary) = true
+sound (OfType f) = true
+sound (OfMember w) = eqb w 0 || isWidth w
+sound (OfRecord before names behind) = true
+sound Unknown = true

@@ -8,14 +8,15 @@ ghost use mathlib.Core.List.{_∷_, []};
 ghost use mathlib.Core.Option.{some};
 ghost use Prim.Native.Nat.{_+_, _≤_};
 ghost use lib.ListN.{length, replicate};
+ghost use lib.Dec.{T};
 ghost use lib.Seq.{sets};
 ghost use Rattle.names.specs.Documents.{bytes};
 ghost use Rattle.meaning.specs.Encoding.{numberItems};
-ghost use Rattle.meaning.specs.Kinds.{formOf};
+ghost use Rattle.meaning.specs.Kinds.{OfExpr, formOf};
 ghost use Rattle.meaning.specs.Writing.{whole, flag, named, numeric, exprFields, typeFields, recordFields, fieldsOf};
 ghost use Rattle.bundle.specs.View.{exprFormMeant, typeFormMeant};
 ghost use Rattle.writer.specs.declared.Shaped.the-variants.{Body};
-ghost use Rattle.writer.specs.Shapes.{partOf, noPart, shapedOf, isWidth, ofKind};
+ghost use Rattle.writer.specs.Shapes.{partOf, noPart, shapedOf, isWidth, isCount, sound};
 
 // A part of a record's body: its bytes, its largest value, and the refusal of a larger one. A part that is not there has no bytes.
 pub struct Part {
@@ -35,7 +36,7 @@ pub struct Shape {
 // What a kind byte says of its body.
 pub enum Shaped {
     Body(Shape),
-    Unknown,
+    None,
 }
 
 // The part that is not there.
@@ -69,7 +70,7 @@ fn number_part(width: usize, most: u64, fault: u8) -> Part
 
 // A number that may be as large as fits its 1, 2, 4 or 8 bytes.
 fn whole_part(width: u8) -> Part
-    requires { ⌜ isWidth width ⌝ }
+    requires { ⌜ T (isWidth width) ⌝ }
     ensures { λ r. ⌜ r ≡ partOf (whole width) ⌝ }
 {
     match width {
@@ -94,7 +95,7 @@ fn body(first: Part, second: Part, third: Part, fourth: Part) -> Shaped
 
 // A path of 1 to 4 names.
 fn path_shape(count: u8) -> Shaped
-    requires { ⌜ (1 ≤ count) × (count ≤ 4) ⌝ }
+    requires { ⌜ T (isCount count) ⌝ }
     ensures { λ r. ⌜ r ≡ shapedOf (some (replicate count named)) ⌝ }
 {
     let name = name_part();
@@ -109,7 +110,7 @@ fn path_shape(count: u8) -> Shaped
 
 // The body of an expression.
 fn expr_shape(form: ExprForm) -> Shaped
-    requires { ⌜ ofKind form ⌝ }
+    requires { ⌜ T (sound (OfExpr (exprFormMeant form))) ⌝ }
     ensures { λ r. ⌜ r ≡ shapedOf (some (exprFields (exprFormMeant form))) ⌝ }
 {
     let none = no_part();
@@ -167,11 +168,11 @@ fn shape_of(kind: u8) -> Shaped
             if width == 0 {
                 body(name_part(), no_part(), no_part(), no_part())
             } else {
-                body(name_part(), whole_part(8), no_part(), no_part())
+                body(name_part(), whole_part(width), no_part(), no_part())
             }
         }
         Form::OfRecord(_, _, _) => record_shape(kind),
-        Form::Unknown => Shaped::Unknown,
+        Form::Unknown => Shaped::None,
     }
 }
 

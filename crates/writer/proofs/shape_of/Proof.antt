@@ -1,116 +1,95 @@
+-- `writer::shape_of` meets its contract. Assumes nothing.
 use borrow.Author.Needs.{needs}
 use Rattle.writer.proofs.shape_of.Statement.{statement}
 use Rattle.writer.proofs.shape_of.Tie as tie
-use Rattle.writer.proofs.shape_of.Reads as reads
-use Rattle.writer.proofs.shape_of.Lts as lts
-use Rattle.bundle.proofs.form_of.Reads as form-of-reads
-use Rattle.writer.proofs.body.Reads as body-reads
-use Rattle.writer.proofs.expr_shape.Reads as expr-shape-reads
-use Rattle.writer.proofs.name_part.Reads as name-part-reads
-use Rattle.writer.proofs.no_part.Reads as no-part-reads
-use Rattle.writer.proofs.record_shape.Reads as record-shape-reads
-use Rattle.writer.proofs.type_shape.Reads as type-shape-reads
-use Rattle.writer.proofs.whole_part.Reads as whole-part-reads
+use borrow.Author.Tests.{eq-eqb, ne-eqb}
+use native.Mathlib.Omega.{arith}
+use Rattle.bundle.specs.View.{formMeant}
+use Rattle.writer.specs.Shapes.{shapedOf, shapeOf}
+use Rattle.writer.proofs.ShapeLaws.{kind-sound}
 
--- src/lib.rt:162:9
 form-of-requires : tie.Need-form-of-requires
 form-of-requires c κs = search needs
 
--- src/lib.rt:164:22
 enum-known-form : tie.Need-enum-known-form
 enum-known-form c = search needs
 
--- src/lib.rt:164:31
 expr-shape-requires : tie.Need-expr-shape-requires
-expr-shape-requires c κs = ?
+unfolding formMeant
+expr-shape-requires c κs = kind-sound _ _ _ (omega arith) (c .before .before .before .form-of .ensures) (c .before .form .given .1)
 
--- src/lib.rt:165:22
 enum-known-form-2 : tie.Need-enum-known-form-2
 enum-known-form-2 c = search needs
 
--- src/lib.rt:165:29
 type-shape-requires : tie.Need-type-shape-requires
 type-shape-requires c κs = search needs
 
--- src/lib.rt:166:24
 enum-known-form-3 : tie.Need-enum-known-form-3
 enum-known-form-3 c = search needs
 
--- src/lib.rt:168:22
 name-part-requires : tie.Need-name-part-requires
 name-part-requires c κs = search needs
 
--- src/lib.rt:168:35
 no-part-requires : tie.Need-no-part-requires
 no-part-requires c κs = search needs
 
--- src/lib.rt:168:46
 no-part-requires-2 : tie.Need-no-part-requires-2
 no-part-requires-2 c κs = search needs
 
--- src/lib.rt:168:57
 no-part-requires-3 : tie.Need-no-part-requires-3
 no-part-requires-3 c κs = search needs
 
--- src/lib.rt:168:17
 body-requires : tie.Need-body-requires
 body-requires c κs = search needs
 
--- src/lib.rt:170:22
 name-part-requires-2 : tie.Need-name-part-requires-2
 name-part-requires-2 c κs = search needs
 
--- src/lib.rt:170:35
 whole-part-requires : tie.Need-whole-part-requires
-whole-part-requires c κs = ?
+unfolding formMeant
+whole-part-requires c κs = rw (ne-eqb (c .before .before .before .form3 .given .0 .0) 0 (c .before .if1 .left)) at (kind-sound _ _ _ (omega arith) (c .before .before .before .before .before .form-of .ensures) (c .before .before .before .form3 .given .1))
 
--- src/lib.rt:170:50
 no-part-requires-4 : tie.Need-no-part-requires-4
 no-part-requires-4 c κs = search needs
 
--- src/lib.rt:170:61
 no-part-requires-5 : tie.Need-no-part-requires-5
 no-part-requires-5 c κs = search needs
 
--- src/lib.rt:170:17
 body-requires-2 : tie.Need-body-requires-2
 body-requires-2 c κs = search needs
 
--- src/lib.rt:173:36
 enum-told : tie.Need-enum-told
 enum-told c = search needs
 
--- src/lib.rt:173:36
 record-shape-requires : tie.Need-record-shape-requires
 record-shape-requires c κs = search needs
 
--- src/lib.rt:174:26
 enum-told-2 : tie.Need-enum-told-2
 enum-told-2 c = search needs
 
--- src/lib.rt:159:1
 returns : tie.Need-returns
-returns c = ?
+unfolding shapedOf shapeOf formMeant
+returns c = rw (← c .before .before .before .before .form-of .ensures, c .before .before .form .given .1) (c .expr-shape .ensures)
 
--- src/lib.rt:159:1
 returns-2 : tie.Need-returns-2
-returns-2 c = ?
+unfolding shapedOf shapeOf formMeant
+returns-2 c = rw (← c .before .before .before .before .form-of .ensures, c .before .before .form2 .given .1) (c .type-shape .ensures)
 
--- src/lib.rt:159:1
 returns-3 : tie.Need-returns-3
-returns-3 c = ?
+unfolding shapedOf shapeOf formMeant
+returns-3 c = rw (← c .before .before .before .before .before .before .before .before .before .form-of .ensures, c .before .before .before .before .before .before .before .form3 .given .1, eq-eqb _ _ (c .before .before .before .before .before .if1 .taken)) cc
 
--- src/lib.rt:159:1
 returns-4 : tie.Need-returns-4
-returns-4 c = ?
+unfolding shapedOf shapeOf formMeant
+returns-4 c = rw (← c .before .before .before .before .before .before .before .before .before .form-of .ensures, c .before .before .before .before .before .before .before .form3 .given .1, ne-eqb _ _ (c .before .before .before .before .before .if1 .left)) cc
 
--- src/lib.rt:159:1
 returns-5 : tie.Need-returns-5
-returns-5 c = ?
+unfolding shapedOf shapeOf formMeant
+returns-5 c = rw (← c .before .before .before .form-of .ensures, c .before .enum-told .given .1) (c .record-shape .ensures)
 
--- src/lib.rt:159:1
 returns-6 : tie.Need-returns-6
-returns-6 c = ?
+unfolding shapedOf shapeOf formMeant
+returns-6 c = rw (← c .before .before .form-of .ensures, c .enum-told2 .given .1)
 
 pub shape-of-spec : {M : Type 1} → statement M
 shape-of-spec =
