@@ -1,2 +1,3 @@
 pub mod Numbers
 pub mod ShapeLaws
+pub mod RecordLaws

@@ -1,5 +1,5 @@
 -- What the writer's shapes stand for: the fields of a record's body (the meaning's Writing.antt), four places for them.
-use Prim.Native.Nat.{ℕ, _-_, _^_}
+use Prim.Native.Nat.{ℕ, _+_, _-_, _^_}
 use mathlib.Core.Bool.{Bool, true, _||_}
 use mathlib.Core.List.{List, [], _∷_}
 use mathlib.Core.Option.{Option, none, some}
@@ -49,6 +49,17 @@ shapeOf fs =
 unfoldable pub shapedOf : Option (List Field) → Shaped
 shapedOf none = None
 shapedOf (some fs) = Body (shapeOf fs)
+
+-- the fields that a shape stands for
+abbrev pub fieldOf : Part → Field
+fieldOf p = numeric (p .width) (p .most) (p .fault)
+
+abbrev pub shapeFields : Shape → List Field
+shapeFields s = fieldOf (s .first) ∷ fieldOf (s .second) ∷ fieldOf (s .third) ∷ fieldOf (s .fourth) ∷ []
+
+-- the bytes of a record of this shape
+abbrev pub sizeOf : Shape → ℕ
+sizeOf s = 1 + s .first .width + s .second .width + s .third .width + s .fourth .width
 
 -- n is one of these four
 abbrev pub oneOf : ℕ → ℕ → ℕ → ℕ → ℕ → Bool

@@ -6,21 +6,23 @@ use bundle::TypeForm;
 ghost use mathlib.Core.Path.{_≡_};
 ghost use mathlib.Core.List.{_∷_, []};
 ghost use mathlib.Core.Option.{some};
-ghost use Prim.Native.Nat.{_+_, _≤_};
+ghost use Prim.Native.Nat.{_+_, _-_, _≤_};
 ghost use lib.ListN.{length, replicate};
 ghost use lib.Dec.{T};
 ghost use lib.Seq.{sets};
-ghost use Rattle.names.specs.Documents.{bytes};
+ghost use Rattle.names.specs.Documents.{byte, bytes};
 ghost use Rattle.meaning.specs.Encoding.{numberItems};
 ghost use Rattle.meaning.specs.Kinds.{OfExpr, formOf};
 ghost use Rattle.meaning.specs.Writing.{whole, flag, named, numeric, exprFields, typeFields, recordFields, fieldsOf};
+ghost use Rattle.meaning.specs.Writing.{bodyItems, recordDue, writing};
 ghost use Rattle.bundle.specs.View.{exprFormMeant, typeFormMeant};
 ghost use Rattle.writer.specs.declared.Shaped.the-variants.{Body};
-ghost use Rattle.writer.specs.Shapes.{partOf, noPart, shapedOf, isWidth, isCount, sound};
+ghost use Rattle.writer.specs.Shapes.{partOf, noPart, shapedOf, isWidth, isCount, sound, shapeFields, sizeOf};
+ghost use Rattle.writer.specs.Places.{CallFrom, answerMeant};
 
 // A part of a record's body: its bytes, its largest value, and the refusal of a larger one. A part that is not there has no bytes.
 pub struct Part {
-    pub width: usize,
+    pub width: u8,
     pub most: u64,
     pub fault: u8,
 }
@@ -62,7 +64,7 @@ fn name_part() -> Part
 }
 
 // A number of `width` bytes that is at most `most`.
-fn number_part(width: usize, most: u64, fault: u8) -> Part
+fn number_part(width: u8, most: u64, fault: u8) -> Part
     ensures { λ r. ⌜ r ≡ partOf (numeric width most fault) ⌝ }
 {
     Part { width, most, fault }
@@ -176,6 +178,12 @@ fn shape_of(kind: u8) -> Shaped
     }
 }
 
+// The answer to a call: the length of its result, or the number of a refusal.
+pub enum Answer {
+    Accepted(usize),
+    Refused(u8),
+}
+
 // Writes a number of `width` bytes, low byte first.
 pub fn put_number(out: &mut [u8], at: usize, width: usize, value: u64)
     requires { ⌜ at + width ≤ length (now out) ⌝ }
@@ -189,5 +197,74 @@ pub fn put_number(out: &mut [u8], at: usize, width: usize, value: u64)
         rest = rest / 256;
         next += 1;
         left -= 1;
+    }
+}
+
+// The places that are left from `at` on.
+fn room_at(places: usize, at: usize) -> usize
+    ensures { λ r. ⌜ r ≡ places - at ⌝ }
+{
+    if at < places { places - at } else { 0 }
+}
+
+// Writes a record that has room.
+fn put_record(out: &mut [u8], at: usize, kind: u8, shape: Shape, a: u64, b: u64, c: u64, d: u64)
+    requires { ⌜ at + sizeOf shape ≤ length (now out) ⌝ }
+    ensures {
+        λ r. ⌜ now (out .exit) ≡ sets (now (out .entry)) at (bytes (byte kind ∷ bodyItems (shapeFields shape) (a ∷ b ∷ c ∷ d ∷ []))) ⌝
+    }
+{
+    let first = shape.first.width as usize;
+    let second = shape.second.width as usize;
+    let third = shape.third.width as usize;
+    let fourth = shape.fourth.width as usize;
+    out[at] = kind;
+    put_number(out, at + 1, first, a);
+    put_number(out, at + 1 + first, second, b);
+    put_number(out, at + 1 + first + second, third, c);
+    put_number(out, at + 1 + first + second + third, fourth, d);
+}
+
+// Writes a record whose values are not too large, where it has room.
+fn write_shape(out: &mut [u8], at: usize, kind: u8, shape: Shape, a: u64, b: u64, c: u64, d: u64) -> Answer
+    ensures {
+        λ r. ⌜ CallFrom at (recordDue kind (a ∷ b ∷ c ∷ d ∷ []) (some (shapeFields shape))) (now (out .entry)) (now (out .exit)) (answerMeant r) ⌝
+    }
+{
+    if shape.first.most < a {
+        return Answer::Refused(shape.first.fault);
+    }
+    if shape.second.most < b {
+        return Answer::Refused(shape.second.fault);
+    }
+    if shape.third.most < c {
+        return Answer::Refused(shape.third.fault);
+    }
+    if shape.fourth.most < d {
+        return Answer::Refused(shape.fourth.fault);
+    }
+    let size = 1
+        + shape.first.width as usize
+        + shape.second.width as usize
+        + shape.third.width as usize
+        + shape.fourth.width as usize;
+    if room_at(out.len(), at) < size {
+        return Answer::Refused(9);
+    }
+    put_record(out, at, kind, shape, a, b, c, d);
+    Answer::Accepted(size)
+}
+
+// Writes the record of this kind at `at`. The values are those of its body, in order; those that the kind does not have are
+// not looked at.
+pub fn write_record(out: &mut [u8], at: usize, kind: u8, a: u64, b: u64, c: u64, d: u64) -> Answer
+    ensures {
+        λ r. ⌜ CallFrom at (writing kind (a ∷ b ∷ c ∷ d ∷ [])) (now (out .entry)) (now (out .exit)) (answerMeant r) ⌝
+    }
+{
+    let shaped = shape_of(kind);
+    match shaped {
+        Shaped::Body(shape) => write_shape(out, at, kind, shape, a, b, c, d),
+        Shaped::None => Answer::Refused(3),
     }
 }

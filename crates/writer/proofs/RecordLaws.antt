@@ -1,0 +1,217 @@
+-- A record written by its shape: what is due to the call, and what its stores leave.
+use Prim.Native.Nat.{ℕ, zero, suc, _+_, _-_, _/_, _%_, _^_, _≤_, _<_}
+use native.Mathlib.Nat.{not-suc-le-zero, le-of-suc-le-suc}
+use native.Mathlib.Numerals.{add-one}
+use native.Mathlib.Omega.{arith}
+use mathlib.Core.Path.{_≡_, refl, sym, ap, subst, _∙_}
+use mathlib.Core.Bool.{Bool, true, false, cond}
+use mathlib.Core.List.{List, [], _∷_, _++_, append-assoc}
+use mathlib.Core.Option.{Option, none, some}
+use lib.Dec.{T, leb, leb→le}
+use lib.ListN.{length, take, drop, set, length-append, length-drop, length-take}
+use lib.Seq.{sets, sets-eq, take-at, drop-at, length-take-le, drop-drop}
+use borrow.Author.Tests.{le-leb, lt-leb, leb-true}
+use Rattle.names.specs.Documents.{Item, byte, bytes}
+use Rattle.meaning.specs.Kinds.{lookup, formOf}
+use Rattle.meaning.specs.Encoding.{numberItems}
+use Rattle.meaning.specs.Calls.{Answer, Outcome, result, refusal, accepted, refusedWith, answerOf, placesAfter}
+use Rattle.meaning.specs.Writing.{Field, numeric, named, most, fault, fieldItems, bodyItems, firstFault, fieldsOf, unless, recordDue, writing}
+use Rattle.meaning.specs.Within.{Fits, Each}
+use Rattle.meaning.proofs.Written.{bytes-append, both-written}
+use Rattle.meaning.proofs.ExprSpans.{all-at}
+use Rattle.writer.specs.declared.Part.{Part}
+use Rattle.writer.specs.declared.Shape.{Shape}
+use Rattle.writer.specs.declared.Shaped.{Shaped}
+use Rattle.writer.specs.declared.Shaped.the-variants.{Body, None}
+use Rattle.writer.specs.Shapes.{width, partOf, noPart, firstPart, others, shapeOf, shapedOf, fieldOf, shapeFields, sizeOf}
+use Rattle.writer.specs.Places.{CallFrom}
+
+-- the stores of a number, and of what follows it
+run : (l m : List ℕ) (i w v : ℕ) (d : List Item) → m ≡ sets l i (bytes (numberItems w v)) → sets m (i + w) (bytes d) ≡ sets l i (bytes (numberItems w v ++ d))
+unfolding numberItems
+run l m i zero v d e = let z : i + 0 ≡ i = omega arith in rw (z, e)
+run l m i (suc w) v d e = let q : i + suc w ≡ suc i + w = omega arith in rw q (run (set l i (v % 256)) m (suc i) w (v / 256) d e)
+
+-- the stores of a record
+pub stored : (l l₁ l₂ l₃ l₄ : List ℕ) (at k a b c d : ℕ) (s : Shape)
+    → l₁ ≡ sets (set l at k) (at + 1) (bytes (numberItems (s .first .width) a))
+    → l₂ ≡ sets l₁ (at + 1 + s .first .width) (bytes (numberItems (s .second .width) b))
+    → l₃ ≡ sets l₂ (at + 1 + s .first .width + s .second .width) (bytes (numberItems (s .third .width) c))
+    → l₄ ≡ sets l₃ (at + 1 + s .first .width + s .second .width + s .third .width) (bytes (numberItems (s .fourth .width) d))
+    → l₄ ≡ sets l at (bytes (byte k ∷ bodyItems (shapeFields s) (a ∷ b ∷ c ∷ d ∷ [])))
+unfolding bodyItems
+stored l l₁ l₂ l₃ l₄ at k a b c d s e₁ e₂ e₃ e₄ =
+    let d₄ = numberItems (s .fourth .width) d ++ [] in
+    let d₃ = numberItems (s .third .width) c ++ d₄ in
+    let d₂ = numberItems (s .second .width) b ++ d₃ in
+    run l₃ l₄ (at + 1 + s .first .width + s .second .width + s .third .width) (s .fourth .width) d [] e₄
+    ∙ run l₂ l₃ (at + 1 + s .first .width + s .second .width) (s .third .width) c d₄ e₃
+    ∙ run l₁ l₂ (at + 1 + s .first .width) (s .second .width) b d₃ e₂
+    ∙ run (set l at k) l₁ (at + 1) (s .first .width) a d₂ e₁
+    ∙ ap (λ i. sets (set l at k) i (bytes (numberItems (s .first .width) a ++ d₂))) (add-one at)
+
+-- The bytes of a record.
+
+number-length : (w v : ℕ) → length (bytes (numberItems w v)) ≡ w
+unfolding numberItems
+number-length zero v = refl
+number-length (suc w) v = ap suc (number-length w (v / 256))
+
+part-length : (w v : ℕ) (d : List Item) → length (bytes (numberItems w v ++ d)) ≡ w + length (bytes d)
+part-length w v d = ap length (bytes-append (numberItems w v) d) ∙ length-append (bytes (numberItems w v)) (bytes d) ∙ ap (_+ length (bytes d)) (number-length w v)
+
+pub record-size : (k a b c d : ℕ) (s : Shape) → length (bytes (byte k ∷ bodyItems (shapeFields s) (a ∷ b ∷ c ∷ d ∷ []))) ≡ sizeOf s
+unfolding bodyItems
+record-size k a b c d s =
+    let d₄ = numberItems (s .fourth .width) d ++ [] in
+    let d₃ = numberItems (s .third .width) c ++ d₄ in
+    let d₂ = numberItems (s .second .width) b ++ d₃ in
+    omega (arith, part-length (s .first .width) a d₂, part-length (s .second .width) b d₃, part-length (s .third .width) c d₄, part-length (s .fourth .width) d [])
+
+-- What is due by a shape.
+
+fits : (f : Field) (fs : List Field) (v : ℕ) (vs : List ℕ) → v ≤ most f → firstFault (f ∷ fs) (v ∷ vs) ≡ firstFault fs vs
+unfolding firstFault
+fits f fs v vs h = rw (le-leb v (most f) h)
+
+large : (f : Field) (fs : List Field) (v : ℕ) (vs : List ℕ) → most f < v → firstFault (f ∷ fs) (v ∷ vs) ≡ some (fault f)
+unfolding firstFault
+large f fs v vs h = rw (lt-leb v (most f) h)
+
+-- a refused call changes nothing
+pub refused-from : (at : ℕ) (o : Outcome) (l : List ℕ) (k : ℕ) → o ≡ refusal k → CallFrom at o l l (refusedWith k)
+unfolding answerOf placesAfter
+refused-from at o l k e = rw e (record { kept = refl; call = record { answer = refl; places = refl } })
+
+-- an accepted one stores its result
+accepted-from : (at : ℕ) (o : Outcome) (l m xs : List ℕ) → o ≡ result xs → at + length xs ≤ length l → m ≡ sets l at xs → CallFrom at o l m (accepted (length xs))
+unfolding answerOf placesAfter
+accepted-from at o l m xs e h p =
+    let rest = drop (at + length xs) l in
+    let q : m ≡ take at l ++ (xs ++ rest) = p ∙ sets-eq xs l at h ∙ append-assoc (take at l) xs rest in
+    let n = length-take-le at l (omega arith) in
+    let f = le-leb (length xs) (length (drop at l)) (rw (length-drop at l) (omega arith)) in
+    rw e (record {
+      kept = ap (take at) q ∙ take-at (take at l) (xs ++ rest) at n;
+      call = record {
+        answer = rw f;
+        places = ap (drop at) q ∙ drop-at (take at l) (xs ++ rest) at n ∙ rw (f, drop-drop (length xs) at l);
+      };
+    })
+
+module _ (at k a b c d : ℕ) (s : Shape) (l : List ℕ) where
+  -- what is due where the first value, or a later one, is too large
+  abbrev due : Outcome
+  due = recordDue k (a ∷ b ∷ c ∷ d ∷ []) (some (shapeFields s))
+
+  abbrev found : List ℕ
+  found = bytes (byte k ∷ bodyItems (shapeFields s) (a ∷ b ∷ c ∷ d ∷ []))
+
+  faulty : (n : ℕ) → firstFault (shapeFields s) (a ∷ b ∷ c ∷ d ∷ []) ≡ some n → CallFrom at due l l (refusedWith n)
+  faulty n e = refused-from at due l n (ap (λ o. unless o found) e)
+
+  pub first-large : s .first .most < a → CallFrom at due l l (refusedWith (s .first .fault))
+  first-large h = faulty (s .first .fault) (large (fieldOf (s .first)) _ a _ h)
+
+  module _ (p : a ≤ s .first .most) where
+    pub second-large : s .second .most < b → CallFrom at due l l (refusedWith (s .second .fault))
+    second-large h = faulty (s .second .fault) (fits (fieldOf (s .first)) _ a _ p ∙ large (fieldOf (s .second)) _ b _ h)
+
+    module _ (q : b ≤ s .second .most) where
+      pub third-large : s .third .most < c → CallFrom at due l l (refusedWith (s .third .fault))
+      third-large h = faulty (s .third .fault) (fits (fieldOf (s .first)) _ a _ p ∙ fits (fieldOf (s .second)) _ b _ q ∙ large (fieldOf (s .third)) _ c _ h)
+
+      module _ (r : c ≤ s .third .most) where
+        third-fits : firstFault (shapeFields s) (a ∷ b ∷ c ∷ d ∷ []) ≡ firstFault (fieldOf (s .fourth) ∷ []) (d ∷ [])
+        third-fits = fits (fieldOf (s .first)) _ a _ p ∙ fits (fieldOf (s .second)) _ b _ q ∙ fits (fieldOf (s .third)) _ c _ r
+
+        pub fourth-large : s .fourth .most < d → CallFrom at due l l (refusedWith (s .fourth .fault))
+        fourth-large h = faulty (s .fourth .fault) (third-fits ∙ large (fieldOf (s .fourth)) [] d [] h)
+
+        module _ (t : d ≤ s .fourth .most) where
+          all-fit : due ≡ result found
+          unfolding firstFault
+          all-fit = ap (λ o. unless o found) (third-fits ∙ fits (fieldOf (s .fourth)) [] d [] t)
+
+          -- a record that is longer than the room is refused, and any other is stored
+          pub no-room : length l - at < sizeOf s → CallFrom at due l l (refusedWith 9)
+          unfolding answerOf placesAfter
+          no-room h =
+              let e = lt-leb (length found) (length (drop at l)) (rw (length-drop at l, record-size k a b c d s) h) in
+              rw (all-fit) (record { kept = refl; call = record { answer = rw e; places = rw e } })
+
+          pub written-from : (m : List ℕ) → sizeOf s ≤ length l - at → m ≡ sets l at found → CallFrom at due l m (accepted (sizeOf s))
+          written-from m h e =
+              let n = record-size k a b c d s in
+              subst (λ n. CallFrom at due l m (accepted n)) n (accepted-from at due l m found all-fit (omega (arith, n)) e)
+
+-- The fields of a kind, padded to as many as there are values, ask the same of values that fit 8 bytes.
+
+abbrev padded : List ℕ → List Field → List Field
+padded [] fs = []
+padded (v ∷ vs) fs = fieldOf (firstPart fs) ∷ padded vs (others fs)
+
+padded-fault : (vs : List ℕ) (fs : List Field) → length fs ≤ length vs → Each (Fits 8) vs → firstFault (padded vs fs) vs ≡ firstFault fs vs
+unfolding firstFault
+padded-fault [] [] h o = refl
+padded-fault [] (f ∷ fs) h o = absurd (not-suc-le-zero h)
+padded-fault (v ∷ vs) [] h o = fits (fieldOf noPart) (padded vs []) v vs (omega (arith, o .0)) ∙ padded-fault vs [] (omega arith) (o .1)
+padded-fault (v ∷ vs) (f ∷ fs) h o = ap (λ r. cond (leb v (most f)) r (some (fault f))) (padded-fault vs fs (le-of-suc-le-suc h) (o .1))
+
+-- a name that fits is a number of two bytes
+field-bytes : (f : Field) (v : ℕ) → v ≤ most f → bytes (numberItems (width f) v) ≡ bytes (fieldItems f v)
+unfolding numberItems
+field-bytes (numeric w m k) v h = refl
+field-bytes named v h = let e : v / 256 % 256 ≡ v / 256 = omega arith in ap (λ b. v % 256 ∷ b ∷ []) e
+
+passes : (t : Bool) (r : Option ℕ) (k : ℕ) → cond t r (some k) ≡ none → (t ≡ true) × (r ≡ none)
+passes true r k e = (refl, e)
+passes false r k e = let z : _≡_ {A = ℕ} 0 1 = cc in absurd (omega arith)
+
+padded-bytes : (vs : List ℕ) (fs : List Field) → length fs ≤ length vs → firstFault fs vs ≡ none → bytes (bodyItems (padded vs fs) vs) ≡ bytes (bodyItems fs vs)
+unfolding firstFault bodyItems numberItems
+padded-bytes [] [] h e = refl
+padded-bytes [] (f ∷ fs) h e = absurd (not-suc-le-zero h)
+padded-bytes (v ∷ vs) [] h e = padded-bytes vs [] (omega arith) refl
+padded-bytes (v ∷ vs) (f ∷ fs) h e =
+    let g = passes (leb v (most f)) (firstFault fs vs) (fault f) e in
+    both-written (numberItems (width f) v) (bodyItems (padded vs fs) vs) (field-bytes f v (leb-true v (most f) (g .0))) (padded-bytes vs fs (le-of-suc-le-suc h) (g .1))
+    ∙ sym (bytes-append (fieldItems f v) (bodyItems fs vs))
+
+padded-due : (k : ℕ) (vs : List ℕ) (fs : List Field) → length fs ≤ length vs → Each (Fits 8) vs → recordDue k vs (some (padded vs fs)) ≡ recordDue k vs (some fs)
+padded-due k vs fs h o = rw (padded-fault vs fs h o) (same (firstFault fs vs) (λ e. ap (k ∷_) (padded-bytes vs fs h e)))
+  where
+    same : {xs ys : List ℕ} (o : Option ℕ) → (o ≡ none → xs ≡ ys) → unless o xs ≡ unless o ys
+    same none h = ap result (h refl)
+    same (some n) h = refl
+
+-- What is due by the shape of a kind is due by the kind.
+
+short : Option (List Field) → Bool
+short none = true
+short (some fs) = leb (length fs) 4
+
+kind-short : (k : ℕ) → k < 256 → T (short (fieldsOf k (formOf k)))
+unfolding lookup short
+kind-short k h = all-at (λ k. short (fieldsOf k (formOf k))) 256 k tt h
+
+module _ (k a b c d : ℕ) (r : Shaped) (n : k < 256) (o : Each (Fits 8) (a ∷ b ∷ c ∷ d ∷ [])) (e : r ≡ shapedOf (fieldsOf k (formOf k))) where
+  shape-due : (s : Shape) → r ≡ Body s → (fs : Option (List Field)) → T (short fs) → r ≡ shapedOf fs
+      → recordDue k (a ∷ b ∷ c ∷ d ∷ []) (some (shapeFields s)) ≡ recordDue k (a ∷ b ∷ c ∷ d ∷ []) fs
+  unfolding shapedOf shapeOf short
+  shape-due s p none t q = let z : _≡_ {A = ℕ} 0 1 = cc in absurd (omega arith)
+  shape-due s p (some fs) t q = let g : s ≡ shapeOf fs = cc in rw g (padded-due k (a ∷ b ∷ c ∷ d ∷ []) fs (leb→le (length fs) 4 t) o)
+
+  pub shape-written : (s : Shape) {at : ℕ} {l m : List ℕ} {x : Answer} → r ≡ Body s → CallFrom at (recordDue k (a ∷ b ∷ c ∷ d ∷ []) (some (shapeFields s))) l m x
+      → CallFrom at (writing k (a ∷ b ∷ c ∷ d ∷ [])) l m x
+  unfolding writing
+  shape-written s {at} {l} {m} {x} p w = subst (λ o. CallFrom at o l m x) (shape-due s p (fieldsOf k (formOf k)) (kind-short k n) e) w
+
+  no-fields : (fs : Option (List Field)) → None ≡ shapedOf fs → recordDue k (a ∷ b ∷ c ∷ d ∷ []) fs ≡ refusal 3
+  unfolding shapedOf
+  no-fields none q = refl
+  no-fields (some fs) q = let z : _≡_ {A = ℕ} 0 1 = cc in absurd (omega arith)
+
+  pub no-kind : (at : ℕ) (l : List ℕ) → r ≡ None → CallFrom at (writing k (a ∷ b ∷ c ∷ d ∷ [])) l l (refusedWith 3)
+  unfolding writing
+  no-kind at l p = refused-from at (recordDue k (a ∷ b ∷ c ∷ d ∷ []) (fieldsOf k (formOf k))) l 3 (no-fields (fieldsOf k (formOf k)) (sym p ∙ e))
