@@ -1,3 +1,4 @@
 pub mod Numbers
 pub mod ShapeLaws
 pub mod RecordLaws
+pub mod BufferLaws

@@ -4,19 +4,21 @@ use native.Mathlib.Nat.{not-suc-le-zero, le-of-suc-le-suc}
 use native.Mathlib.Numerals.{add-one}
 use native.Mathlib.Omega.{arith}
 use mathlib.Core.Path.{_≡_, refl, sym, ap, subst, _∙_}
+use mathlib.Core.Logic.{⊎-elim}
 use mathlib.Core.Bool.{Bool, true, false, cond}
 use mathlib.Core.List.{List, [], _∷_, _++_, append-assoc}
 use mathlib.Core.Option.{Option, none, some}
-use lib.Dec.{T, leb, leb→le}
+use lib.Dec.{T, lit<, leb, leb→le}
 use lib.ListN.{length, take, drop, set, length-append, length-drop, length-take}
 use lib.Seq.{sets, sets-eq, take-at, drop-at, length-take-le, drop-drop}
 use borrow.Author.Tests.{le-leb, lt-leb, leb-true}
 use Rattle.names.specs.Documents.{Item, byte, bytes}
-use Rattle.meaning.specs.Kinds.{lookup, formOf}
+use Rattle.meaning.specs.Kinds.{kinds, lookup, formOf}
 use Rattle.meaning.specs.Encoding.{numberItems}
 use Rattle.meaning.specs.Calls.{Answer, Outcome, result, refusal, accepted, refusedWith, answerOf, placesAfter}
 use Rattle.meaning.specs.Writing.{Field, numeric, named, most, fault, fieldItems, bodyItems, firstFault, fieldsOf, unless, recordDue, writing}
 use Rattle.meaning.specs.Within.{Fits, Each}
+use Rattle.meaning.proofs.KindTable.{past, side}
 use Rattle.meaning.proofs.Written.{bytes-append, both-written}
 use Rattle.meaning.proofs.ExprSpans.{all-at}
 use Rattle.writer.specs.declared.Part.{Part}
@@ -26,11 +28,22 @@ use Rattle.writer.specs.declared.Shaped.the-variants.{Body, None}
 use Rattle.writer.specs.Shapes.{width, partOf, noPart, firstPart, others, shapeOf, shapedOf, fieldOf, shapeFields, sizeOf}
 use Rattle.writer.specs.Places.{CallFrom}
 
+-- stores behind stores
+pub sets-both : (xs ys l : List ℕ) (i : ℕ) → sets (sets l i xs) (i + length xs) ys ≡ sets l i (xs ++ ys)
+sets-both [] ys l i = let z : i + 0 ≡ i = omega arith in rw z
+sets-both (x ∷ xs) ys l i = let q : i + suc (length xs) ≡ suc i + length xs = omega arith in rw q (sets-both xs ys (set l i x) (suc i))
+
+number-length : (w v : ℕ) → length (bytes (numberItems w v)) ≡ w
+unfolding numberItems
+number-length zero v = refl
+number-length (suc w) v = ap suc (number-length w (v / 256))
+
 -- the stores of a number, and of what follows it
 run : (l m : List ℕ) (i w v : ℕ) (d : List Item) → m ≡ sets l i (bytes (numberItems w v)) → sets m (i + w) (bytes d) ≡ sets l i (bytes (numberItems w v ++ d))
-unfolding numberItems
-run l m i zero v d e = let z : i + 0 ≡ i = omega arith in rw (z, e)
-run l m i (suc w) v d e = let q : i + suc w ≡ suc i + w = omega arith in rw q (run (set l i (v % 256)) m (suc i) w (v / 256) d e)
+run l m i w v d e =
+    let xs = bytes (numberItems w v) in
+    ap (λ m. sets m (i + w) (bytes d)) e ∙ ap (λ n. sets (sets l i xs) (i + n) (bytes d)) (sym (number-length w v)) ∙ sets-both xs (bytes d) l i
+    ∙ ap (sets l i) (sym (bytes-append (numberItems w v) d))
 
 -- the stores of a record
 pub stored : (l l₁ l₂ l₃ l₄ : List ℕ) (at k a b c d : ℕ) (s : Shape)
@@ -50,13 +63,7 @@ stored l l₁ l₂ l₃ l₄ at k a b c d s e₁ e₂ e₃ e₄ =
     ∙ run (set l at k) l₁ (at + 1) (s .first .width) a d₂ e₁
     ∙ ap (λ i. sets (set l at k) i (bytes (numberItems (s .first .width) a ++ d₂))) (add-one at)
 
--- The bytes of a record.
-
-number-length : (w v : ℕ) → length (bytes (numberItems w v)) ≡ w
-unfolding numberItems
-number-length zero v = refl
-number-length (suc w) v = ap suc (number-length w (v / 256))
-
+-- the bytes of a part and of what follows it
 part-length : (w v : ℕ) (d : List Item) → length (bytes (numberItems w v ++ d)) ≡ w + length (bytes d)
 part-length w v d = ap length (bytes-append (numberItems w v) d) ∙ length-append (bytes (numberItems w v)) (bytes d) ∙ ap (_+ length (bytes d)) (number-length w v)
 
@@ -70,7 +77,7 @@ record-size k a b c d s =
 
 -- What is due by a shape.
 
-fits : (f : Field) (fs : List Field) (v : ℕ) (vs : List ℕ) → v ≤ most f → firstFault (f ∷ fs) (v ∷ vs) ≡ firstFault fs vs
+pub fits : (f : Field) (fs : List Field) (v : ℕ) (vs : List ℕ) → v ≤ most f → firstFault (f ∷ fs) (v ∷ vs) ≡ firstFault fs vs
 unfolding firstFault
 fits f fs v vs h = rw (le-leb v (most f) h)
 
@@ -83,20 +90,21 @@ pub refused-from : (at : ℕ) (o : Outcome) (l : List ℕ) (k : ℕ) → o ≡ r
 unfolding answerOf placesAfter
 refused-from at o l k e = rw e (record { kept = refl; call = record { answer = refl; places = refl } })
 
--- an accepted one stores its result
+-- a run of stores, as the places from its start on have it
+pub stored-from : (at : ℕ) (l xs : List ℕ) → at + length xs ≤ length l → sets l at xs ≡ take at l ++ (xs ++ drop (length xs) (drop at l))
+stored-from at l xs h = sets-eq xs l at h ∙ append-assoc (take at l) xs (drop (at + length xs) l) ∙ rw (drop-drop (length xs) at l)
+
+-- an accepted call stores its result
 accepted-from : (at : ℕ) (o : Outcome) (l m xs : List ℕ) → o ≡ result xs → at + length xs ≤ length l → m ≡ sets l at xs → CallFrom at o l m (accepted (length xs))
 unfolding answerOf placesAfter
 accepted-from at o l m xs e h p =
-    let rest = drop (at + length xs) l in
-    let q : m ≡ take at l ++ (xs ++ rest) = p ∙ sets-eq xs l at h ∙ append-assoc (take at l) xs rest in
+    let ys = xs ++ drop (length xs) (drop at l) in
+    let q : m ≡ take at l ++ ys = p ∙ stored-from at l xs h in
     let n = length-take-le at l (omega arith) in
     let f = le-leb (length xs) (length (drop at l)) (rw (length-drop at l) (omega arith)) in
     rw e (record {
-      kept = ap (take at) q ∙ take-at (take at l) (xs ++ rest) at n;
-      call = record {
-        answer = rw f;
-        places = ap (drop at) q ∙ drop-at (take at l) (xs ++ rest) at n ∙ rw (f, drop-drop (length xs) at l);
-      };
+      kept = ap (take at) q ∙ take-at (take at l) ys at n;
+      call = record { answer = rw f; places = ap (drop at) q ∙ drop-at (take at l) ys at n ∙ rw f };
     })
 
 module _ (at k a b c d : ℕ) (s : Shape) (l : List ℕ) where
@@ -187,15 +195,17 @@ padded-due k vs fs h o = rw (padded-fault vs fs h o) (same (firstFault fs vs) (�
 
 -- What is due by the shape of a kind is due by the kind.
 
-short : Option (List Field) → Bool
+unfoldable pub short : Option (List Field) → Bool
 short none = true
 short (some fs) = leb (length fs) 4
 
-kind-short : (k : ℕ) → k < 256 → T (short (fieldsOf k (formOf k)))
+pub kind-short : (k : ℕ) → T (short (fieldsOf k (formOf k)))
 unfolding lookup short
-kind-short k h = all-at (λ k. short (fieldsOf k (formOf k))) 256 k tt h
+kind-short k =
+    ⊎-elim (λ h. all-at (λ k. short (fieldsOf k (formOf k))) 256 k tt h)
+    (λ h. subst (λ f. T (short (fieldsOf k f))) (sym (past kinds 1 17 k tt (lit< tt) (omega arith))) tt) (side k 256)
 
-module _ (k a b c d : ℕ) (r : Shaped) (n : k < 256) (o : Each (Fits 8) (a ∷ b ∷ c ∷ d ∷ [])) (e : r ≡ shapedOf (fieldsOf k (formOf k))) where
+module _ (k a b c d : ℕ) (r : Shaped) (o : Each (Fits 8) (a ∷ b ∷ c ∷ d ∷ [])) (e : r ≡ shapedOf (fieldsOf k (formOf k))) where
   shape-due : (s : Shape) → r ≡ Body s → (fs : Option (List Field)) → T (short fs) → r ≡ shapedOf fs
       → recordDue k (a ∷ b ∷ c ∷ d ∷ []) (some (shapeFields s)) ≡ recordDue k (a ∷ b ∷ c ∷ d ∷ []) fs
   unfolding shapedOf shapeOf short
@@ -205,7 +215,7 @@ module _ (k a b c d : ℕ) (r : Shaped) (n : k < 256) (o : Each (Fits 8) (a ∷ 
   pub shape-written : (s : Shape) {at : ℕ} {l m : List ℕ} {x : Answer} → r ≡ Body s → CallFrom at (recordDue k (a ∷ b ∷ c ∷ d ∷ []) (some (shapeFields s))) l m x
       → CallFrom at (writing k (a ∷ b ∷ c ∷ d ∷ [])) l m x
   unfolding writing
-  shape-written s {at} {l} {m} {x} p w = subst (λ o. CallFrom at o l m x) (shape-due s p (fieldsOf k (formOf k)) (kind-short k n) e) w
+  shape-written s {at} {l} {m} {x} p w = subst (λ o. CallFrom at o l m x) (shape-due s p (fieldsOf k (formOf k)) (kind-short k) e) w
 
   no-fields : (fs : Option (List Field)) → None ≡ shapedOf fs → recordDue k (a ∷ b ∷ c ∷ d ∷ []) fs ≡ refusal 3
   unfolding shapedOf

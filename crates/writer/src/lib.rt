@@ -1,4 +1,5 @@
 // Writes the records of a bundle one by one into a lent buffer.
+use bundle::Answer;
 use bundle::ExprForm;
 use bundle::Form;
 use bundle::TypeForm;
@@ -15,10 +16,11 @@ ghost use Rattle.meaning.specs.Encoding.{numberItems};
 ghost use Rattle.meaning.specs.Kinds.{OfExpr, formOf};
 ghost use Rattle.meaning.specs.Writing.{whole, flag, named, numeric, exprFields, typeFields, recordFields, fieldsOf};
 ghost use Rattle.meaning.specs.Writing.{bodyItems, recordDue, writing};
+ghost use Rattle.bundle.specs.Opened.{answerMeant};
 ghost use Rattle.bundle.specs.View.{exprFormMeant, typeFormMeant};
 ghost use Rattle.writer.specs.declared.Shaped.the-variants.{Body};
 ghost use Rattle.writer.specs.Shapes.{partOf, noPart, shapedOf, isWidth, isCount, sound, shapeFields, sizeOf};
-ghost use Rattle.writer.specs.Places.{CallFrom, answerMeant};
+ghost use Rattle.writer.specs.Places.{CallFrom};
 
 // A part of a record's body: its bytes, its largest value, and the refusal of a larger one. A part that is not there has no bytes.
 pub struct Part {
@@ -176,12 +178,6 @@ fn shape_of(kind: u8) -> Shaped
         Form::OfRecord(_, _, _) => record_shape(kind),
         Form::Unknown => Shaped::None,
     }
-}
-
-// The answer to a call: the length of its result, or the number of a refusal.
-pub enum Answer {
-    Accepted(usize),
-    Refused(u8),
 }
 
 // Writes a number of `width` bytes, low byte first.

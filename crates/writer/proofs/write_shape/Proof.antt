@@ -3,7 +3,7 @@ use borrow.Author.Needs.{needs}
 use Rattle.writer.proofs.write_shape.Statement.{statement}
 use Rattle.writer.proofs.write_shape.Tie as tie
 use native.Mathlib.Omega.{arith}
-use Rattle.writer.specs.Places.{answerMeant}
+use Rattle.bundle.specs.Opened.{answerMeant}
 use Rattle.writer.proofs.RecordLaws.{first-large, second-large, third-large, fourth-large, no-room, written-from}
 
 returns : tie.Need-returns
