@@ -1,31 +1,20 @@
 -- A record written by its shape: what is due to the call, and what its stores leave.
-use Prim.Native.Nat.{ℕ, zero, suc, _+_, _-_, _/_, _%_, _^_, _≤_, _<_}
-use native.Mathlib.Nat.{not-suc-le-zero, le-of-suc-le-suc}
+use Prim.Native.Nat.{ℕ, zero, suc, _+_, _-_, _/_, _≤_, _<_}
 use native.Mathlib.Numerals.{add-one}
 use native.Mathlib.Omega.{arith}
 use mathlib.Core.Path.{_≡_, refl, sym, ap, subst, _∙_}
-use mathlib.Core.Logic.{⊎-elim}
-use mathlib.Core.Bool.{Bool, true, false, cond}
 use mathlib.Core.List.{List, [], _∷_, _++_, append-assoc}
-use mathlib.Core.Option.{Option, none, some}
-use lib.Dec.{T, lit<, leb, leb→le}
-use lib.ListN.{length, take, drop, set, length-append, length-drop, length-take}
+use mathlib.Core.Option.{some}
+use lib.ListN.{length, take, drop, set, length-append, length-drop}
 use lib.Seq.{sets, sets-eq, take-at, drop-at, length-take-le, drop-drop}
-use borrow.Author.Tests.{le-leb, lt-leb, leb-true}
+use borrow.Author.Tests.{le-leb, lt-leb}
 use Rattle.names.specs.Documents.{Item, byte, bytes}
-use Rattle.meaning.specs.Kinds.{kinds, lookup, formOf}
 use Rattle.meaning.specs.Encoding.{numberItems}
-use Rattle.meaning.specs.Calls.{Answer, Outcome, result, refusal, accepted, refusedWith, answerOf, placesAfter}
-use Rattle.meaning.specs.Writing.{Field, numeric, named, most, fault, fieldItems, bodyItems, firstFault, fieldsOf, unless, recordDue, writing}
-use Rattle.meaning.specs.Within.{Fits, Each}
-use Rattle.meaning.proofs.KindTable.{past, side}
-use Rattle.meaning.proofs.Written.{bytes-append, both-written}
-use Rattle.meaning.proofs.ExprSpans.{all-at}
-use Rattle.writer.specs.declared.Part.{Part}
+use Rattle.meaning.specs.Calls.{Outcome, result, refusal, accepted, refusedWith, answerOf, placesAfter}
+use Rattle.meaning.specs.Writing.{Field, most, fault, bodyItems, firstFault, unless, recordDue}
+use Rattle.meaning.proofs.Written.{bytes-append}
 use Rattle.writer.specs.declared.Shape.{Shape}
-use Rattle.writer.specs.declared.Shaped.{Shaped}
-use Rattle.writer.specs.declared.Shaped.the-variants.{Body, None}
-use Rattle.writer.specs.Shapes.{width, partOf, noPart, firstPart, others, shapeOf, shapedOf, fieldOf, shapeFields, sizeOf}
+use Rattle.writer.specs.Shapes.{width, fieldOf, shapeFields, sizeOf}
 use Rattle.writer.specs.Places.{CallFrom}
 
 -- stores behind stores
@@ -67,7 +56,7 @@ stored l l₁ l₂ l₃ l₄ at k a b c d s e₁ e₂ e₃ e₄ =
 part-length : (w v : ℕ) (d : List Item) → length (bytes (numberItems w v ++ d)) ≡ w + length (bytes d)
 part-length w v d = ap length (bytes-append (numberItems w v) d) ∙ length-append (bytes (numberItems w v)) (bytes d) ∙ ap (_+ length (bytes d)) (number-length w v)
 
-pub record-size : (k a b c d : ℕ) (s : Shape) → length (bytes (byte k ∷ bodyItems (shapeFields s) (a ∷ b ∷ c ∷ d ∷ []))) ≡ sizeOf s
+record-size : (k a b c d : ℕ) (s : Shape) → length (bytes (byte k ∷ bodyItems (shapeFields s) (a ∷ b ∷ c ∷ d ∷ []))) ≡ sizeOf s
 unfolding bodyItems
 record-size k a b c d s =
     let d₄ = numberItems (s .fourth .width) d ++ [] in
@@ -108,13 +97,13 @@ accepted-from at o l m xs e h p =
     })
 
 module _ (at k a b c d : ℕ) (s : Shape) (l : List ℕ) where
-  -- what is due where the first value, or a later one, is too large
   abbrev due : Outcome
   due = recordDue k (a ∷ b ∷ c ∷ d ∷ []) (some (shapeFields s))
 
   abbrev found : List ℕ
   found = bytes (byte k ∷ bodyItems (shapeFields s) (a ∷ b ∷ c ∷ d ∷ []))
 
+  -- the first value, or a later one, is too large
   faulty : (n : ℕ) → firstFault (shapeFields s) (a ∷ b ∷ c ∷ d ∷ []) ≡ some n → CallFrom at due l l (refusedWith n)
   faulty n e = refused-from at due l n (ap (λ o. unless o found) e)
 
@@ -146,82 +135,9 @@ module _ (at k a b c d : ℕ) (s : Shape) (l : List ℕ) where
           unfolding answerOf placesAfter
           no-room h =
               let e = lt-leb (length found) (length (drop at l)) (rw (length-drop at l, record-size k a b c d s) h) in
-              rw (all-fit) (record { kept = refl; call = record { answer = rw e; places = rw e } })
+              rw all-fit (record { kept = refl; call = record { answer = rw e; places = rw e } })
 
           pub written-from : (m : List ℕ) → sizeOf s ≤ length l - at → m ≡ sets l at found → CallFrom at due l m (accepted (sizeOf s))
           written-from m h e =
               let n = record-size k a b c d s in
               subst (λ n. CallFrom at due l m (accepted n)) n (accepted-from at due l m found all-fit (omega (arith, n)) e)
-
--- The fields of a kind, padded to as many as there are values, ask the same of values that fit 8 bytes.
-
-abbrev padded : List ℕ → List Field → List Field
-padded [] fs = []
-padded (v ∷ vs) fs = fieldOf (firstPart fs) ∷ padded vs (others fs)
-
-padded-fault : (vs : List ℕ) (fs : List Field) → length fs ≤ length vs → Each (Fits 8) vs → firstFault (padded vs fs) vs ≡ firstFault fs vs
-unfolding firstFault
-padded-fault [] [] h o = refl
-padded-fault [] (f ∷ fs) h o = absurd (not-suc-le-zero h)
-padded-fault (v ∷ vs) [] h o = fits (fieldOf noPart) (padded vs []) v vs (omega (arith, o .0)) ∙ padded-fault vs [] (omega arith) (o .1)
-padded-fault (v ∷ vs) (f ∷ fs) h o = ap (λ r. cond (leb v (most f)) r (some (fault f))) (padded-fault vs fs (le-of-suc-le-suc h) (o .1))
-
--- a name that fits is a number of two bytes
-field-bytes : (f : Field) (v : ℕ) → v ≤ most f → bytes (numberItems (width f) v) ≡ bytes (fieldItems f v)
-unfolding numberItems
-field-bytes (numeric w m k) v h = refl
-field-bytes named v h = let e : v / 256 % 256 ≡ v / 256 = omega arith in ap (λ b. v % 256 ∷ b ∷ []) e
-
-passes : (t : Bool) (r : Option ℕ) (k : ℕ) → cond t r (some k) ≡ none → (t ≡ true) × (r ≡ none)
-passes true r k e = (refl, e)
-passes false r k e = let z : _≡_ {A = ℕ} 0 1 = cc in absurd (omega arith)
-
-padded-bytes : (vs : List ℕ) (fs : List Field) → length fs ≤ length vs → firstFault fs vs ≡ none → bytes (bodyItems (padded vs fs) vs) ≡ bytes (bodyItems fs vs)
-unfolding firstFault bodyItems numberItems
-padded-bytes [] [] h e = refl
-padded-bytes [] (f ∷ fs) h e = absurd (not-suc-le-zero h)
-padded-bytes (v ∷ vs) [] h e = padded-bytes vs [] (omega arith) refl
-padded-bytes (v ∷ vs) (f ∷ fs) h e =
-    let g = passes (leb v (most f)) (firstFault fs vs) (fault f) e in
-    both-written (numberItems (width f) v) (bodyItems (padded vs fs) vs) (field-bytes f v (leb-true v (most f) (g .0))) (padded-bytes vs fs (le-of-suc-le-suc h) (g .1))
-    ∙ sym (bytes-append (fieldItems f v) (bodyItems fs vs))
-
-padded-due : (k : ℕ) (vs : List ℕ) (fs : List Field) → length fs ≤ length vs → Each (Fits 8) vs → recordDue k vs (some (padded vs fs)) ≡ recordDue k vs (some fs)
-padded-due k vs fs h o = rw (padded-fault vs fs h o) (same (firstFault fs vs) (λ e. ap (k ∷_) (padded-bytes vs fs h e)))
-  where
-    same : {xs ys : List ℕ} (o : Option ℕ) → (o ≡ none → xs ≡ ys) → unless o xs ≡ unless o ys
-    same none h = ap result (h refl)
-    same (some n) h = refl
-
--- What is due by the shape of a kind is due by the kind.
-
-unfoldable pub short : Option (List Field) → Bool
-short none = true
-short (some fs) = leb (length fs) 4
-
-pub kind-short : (k : ℕ) → T (short (fieldsOf k (formOf k)))
-unfolding lookup short
-kind-short k =
-    ⊎-elim (λ h. all-at (λ k. short (fieldsOf k (formOf k))) 256 k tt h)
-    (λ h. subst (λ f. T (short (fieldsOf k f))) (sym (past kinds 1 17 k tt (lit< tt) (omega arith))) tt) (side k 256)
-
-module _ (k a b c d : ℕ) (r : Shaped) (o : Each (Fits 8) (a ∷ b ∷ c ∷ d ∷ [])) (e : r ≡ shapedOf (fieldsOf k (formOf k))) where
-  shape-due : (s : Shape) → r ≡ Body s → (fs : Option (List Field)) → T (short fs) → r ≡ shapedOf fs
-      → recordDue k (a ∷ b ∷ c ∷ d ∷ []) (some (shapeFields s)) ≡ recordDue k (a ∷ b ∷ c ∷ d ∷ []) fs
-  unfolding shapedOf shapeOf short
-  shape-due s p none t q = let z : _≡_ {A = ℕ} 0 1 = cc in absurd (omega arith)
-  shape-due s p (some fs) t q = let g : s ≡ shapeOf fs = cc in rw g (padded-due k (a ∷ b ∷ c ∷ d ∷ []) fs (leb→le (length fs) 4 t) o)
-
-  pub shape-written : (s : Shape) {at : ℕ} {l m : List ℕ} {x : Answer} → r ≡ Body s → CallFrom at (recordDue k (a ∷ b ∷ c ∷ d ∷ []) (some (shapeFields s))) l m x
-      → CallFrom at (writing k (a ∷ b ∷ c ∷ d ∷ [])) l m x
-  unfolding writing
-  shape-written s {at} {l} {m} {x} p w = subst (λ o. CallFrom at o l m x) (shape-due s p (fieldsOf k (formOf k)) (kind-short k) e) w
-
-  no-fields : (fs : Option (List Field)) → None ≡ shapedOf fs → recordDue k (a ∷ b ∷ c ∷ d ∷ []) fs ≡ refusal 3
-  unfolding shapedOf
-  no-fields none q = refl
-  no-fields (some fs) q = let z : _≡_ {A = ℕ} 0 1 = cc in absurd (omega arith)
-
-  pub no-kind : (at : ℕ) (l : List ℕ) → r ≡ None → CallFrom at (writing k (a ∷ b ∷ c ∷ d ∷ [])) l l (refusedWith 3)
-  unfolding writing
-  no-kind at l p = refused-from at (recordDue k (a ∷ b ∷ c ∷ d ∷ []) (fieldsOf k (formOf k))) l 3 (no-fields (fieldsOf k (formOf k)) (sym p ∙ e))

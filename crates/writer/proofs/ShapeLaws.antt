@@ -1,6 +1,6 @@
 -- The fields of each kind, as the code finds them.
 use Prim.Native.Nat.{ℕ, _<_}
-use mathlib.Core.Path.{_≡_, refl, subst}
+use mathlib.Core.Path.{_≡_, refl}
 use mathlib.Core.List.{[], _∷_}
 use lib.Dec.{T, eqb→eq}
 use types.Run.{OneOf, miss}

@@ -3,7 +3,6 @@ use bundle::Answer;
 use bundle::ExprForm;
 use bundle::Form;
 use bundle::TypeForm;
-
 ghost use mathlib.Core.Path.{_≡_};
 ghost use mathlib.Core.List.{_∷_, []};
 ghost use mathlib.Core.Option.{some};
@@ -154,7 +153,12 @@ fn record_shape(kind: u8) -> Shaped
 {
     let none = no_part();
     match kind {
-        0x60 => body(number_part(2, 256, 5), number_part(2, 1024, 5), name_part(), none),
+        0x60 => body(
+            number_part(2, 256, 5),
+            number_part(2, 1024, 5),
+            name_part(),
+            none,
+        ),
         0x61 => body(name_part(), none, none, none),
         _ => body(name_part(), name_part(), number_part(1, 3, 4), none),
     }
@@ -206,9 +210,7 @@ fn room_at(places: usize, at: usize) -> usize
 // Writes a record that has room.
 fn put_record(out: &mut [u8], at: usize, kind: u8, shape: Shape, a: u64, b: u64, c: u64, d: u64)
     requires { ⌜ at + sizeOf shape ≤ length (now out) ⌝ }
-    ensures {
-        λ r. ⌜ now (out .exit) ≡ sets (now (out .entry)) at (bytes (byte kind ∷ bodyItems (shapeFields shape) (a ∷ b ∷ c ∷ d ∷ []))) ⌝
-    }
+    ensures { λ r. ⌜ now (out .exit) ≡ sets (now (out .entry)) at (bytes (byte kind ∷ bodyItems (shapeFields shape) (a ∷ b ∷ c ∷ d ∷ []))) ⌝ }
 {
     let first = shape.first.width as usize;
     let second = shape.second.width as usize;
@@ -222,10 +224,17 @@ fn put_record(out: &mut [u8], at: usize, kind: u8, shape: Shape, a: u64, b: u64,
 }
 
 // Writes a record whose values are not too large, where it has room.
-fn write_shape(out: &mut [u8], at: usize, kind: u8, shape: Shape, a: u64, b: u64, c: u64, d: u64) -> Answer
-    ensures {
-        λ r. ⌜ CallFrom at (recordDue kind (a ∷ b ∷ c ∷ d ∷ []) (some (shapeFields shape))) (now (out .entry)) (now (out .exit)) (answerMeant r) ⌝
-    }
+fn write_shape(
+    out: &mut [u8],
+    at: usize,
+    kind: u8,
+    shape: Shape,
+    a: u64,
+    b: u64,
+    c: u64,
+    d: u64,
+) -> Answer
+    ensures { λ r. ⌜ CallFrom at (recordDue kind (a ∷ b ∷ c ∷ d ∷ []) (some (shapeFields shape))) (now (out .entry)) (now (out .exit)) (answerMeant r) ⌝ }
 {
     if shape.first.most < a {
         return Answer::Refused(shape.first.fault);
@@ -254,9 +263,7 @@ fn write_shape(out: &mut [u8], at: usize, kind: u8, shape: Shape, a: u64, b: u64
 // Writes the record of this kind at `at`. The values are those of its body, in order; those that the kind does not have are
 // not looked at.
 pub fn write_record(out: &mut [u8], at: usize, kind: u8, a: u64, b: u64, c: u64, d: u64) -> Answer
-    ensures {
-        λ r. ⌜ CallFrom at (writing kind (a ∷ b ∷ c ∷ d ∷ [])) (now (out .entry)) (now (out .exit)) (answerMeant r) ⌝
-    }
+    ensures { λ r. ⌜ CallFrom at (writing kind (a ∷ b ∷ c ∷ d ∷ [])) (now (out .entry)) (now (out .exit)) (answerMeant r) ⌝ }
 {
     let shaped = shape_of(kind);
     match shaped {

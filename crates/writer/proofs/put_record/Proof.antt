@@ -26,7 +26,7 @@ add-put-number : tie.Need-add-put-number
 add-put-number c = search needs
 
 put-number-requires : tie.Need-put-number-requires
-put-number-requires c κs = omega (arith, length-set (c .before .before .before .before .before .before .args .out .now) (c .before .before .before .before .before .before .args .at) (c .before .before .before .before .before .before .args .kind))
+put-number-requires c κs = simp length-set (omega arith)
 
 add-put-number-2 : tie.Need-add-put-number-2
 add-put-number-2 c = search needs
@@ -35,7 +35,7 @@ add-put-number-3 : tie.Need-add-put-number-3
 add-put-number-3 c = search needs
 
 put-number-requires-2 : tie.Need-put-number-requires-2
-put-number-requires-2 c κs = omega (arith, c .before .before .before .put-number .kept .0, length-set (c .before .before .before .before .before .before .before .before .before .before .args .out .now) (c .before .before .before .before .before .before .before .before .before .before .args .at) (c .before .before .before .before .before .before .before .before .before .before .args .kind))
+put-number-requires-2 c κs = omega (arith, simp length-set at (c .before .before .before .put-number .kept .0))
 
 add-put-number-4 : tie.Need-add-put-number-4
 add-put-number-4 c = search needs
@@ -47,7 +47,7 @@ add-put-number-6 : tie.Need-add-put-number-6
 add-put-number-6 c = search needs
 
 put-number-requires-3 : tie.Need-put-number-requires-3
-put-number-requires-3 c κs = omega (arith, c .before .before .before .put-number2 .kept .0, c .before .before .before .before .before .before .before .put-number .kept .0, length-set (c .before .before .before .before .before .before .before .before .before .before .before .before .before .before .args .out .now) (c .before .before .before .before .before .before .before .before .before .before .before .before .before .before .args .at) (c .before .before .before .before .before .before .before .before .before .before .before .before .before .before .args .kind))
+put-number-requires-3 c κs = omega (arith, c .before .before .before .put-number2 .kept .0, simp length-set at (c .before .before .before .before .before .before .before .put-number .kept .0))
 
 add-put-number-7 : tie.Need-add-put-number-7
 add-put-number-7 c = search needs
@@ -62,13 +62,13 @@ add-put-number-10 : tie.Need-add-put-number-10
 add-put-number-10 c = search needs
 
 put-number-requires-4 : tie.Need-put-number-requires-4
-put-number-requires-4 c κs = omega (arith, c .before .before .before .put-number3 .kept .0, c .before .before .before .before .before .before .before .put-number2 .kept .0, c .before .before .before .before .before .before .before .before .before .before .before .put-number .kept .0, length-set (c .before .before .before .before .before .before .before .before .before .before .before .before .before .before .before .before .before .before .args .out .now) (c .before .before .before .before .before .before .before .before .before .before .before .before .before .before .before .before .before .before .args .at) (c .before .before .before .before .before .before .before .before .before .before .before .before .before .before .before .before .before .before .args .kind))
+put-number-requires-4 c κs = omega (arith, c .before .before .before .put-number3 .kept .0, c .before .before .before .before .before .before .before .put-number2 .kept .0, simp length-set at (c .before .before .before .before .before .before .before .before .before .before .before .put-number .kept .0))
 
 same-length : tie.Need-same-length
-same-length c = c .before .before .put-number4 .kept .0 ∙ c .before .before .before .before .before .before .put-number3 .kept .0 ∙ c .before .before .before .before .before .before .before .before .before .before .put-number2 .kept .0 ∙ c .before .before .before .before .before .before .before .before .before .before .before .before .before .before .put-number .kept .0 ∙ length-set (c .before .before .before .before .before .before .before .before .before .before .before .before .before .before .before .before .before .before .before .before .before .args .out .now) (c .before .before .before .before .before .before .before .before .before .before .before .before .before .before .before .before .before .before .before .before .before .args .at) (c .before .before .before .before .before .before .before .before .before .before .before .before .before .before .before .before .before .before .before .before .before .args .kind)
+same-length c = c .before .before .put-number4 .kept .0 ∙ c .before .before .before .before .before .before .put-number3 .kept .0 ∙ c .before .before .before .before .before .before .before .before .before .before .put-number2 .kept .0 ∙ c .before .before .before .before .before .before .before .before .before .before .before .before .before .before .put-number .kept .0 ∙ simp length-set
 
 returns : tie.Need-returns
-returns c = stored (c .before .before .before .before .before .before .before .before .before .before .before .before .before .before .before .before .before .before .before .before .before .args .out .now) _ _ _ _ (c .before .before .before .before .before .before .before .before .before .before .before .before .before .before .before .before .before .before .before .before .before .args .at) (c .before .before .before .before .before .before .before .before .before .before .before .before .before .before .before .before .before .before .before .before .before .args .kind) _ _ _ _ (c .before .before .before .before .before .before .before .before .before .before .before .before .before .before .before .before .before .before .before .before .before .args .shape) (c .before .before .before .before .before .before .before .before .before .before .before .before .before .before .put-number .ensures) (c .before .before .before .before .before .before .before .before .before .before .put-number2 .ensures) (c .before .before .before .before .before .before .put-number3 .ensures) (c .before .before .put-number4 .ensures)
+returns c = let s = (c .before .before .before .before .before .before .before .before .before .before .before .before .before .before .before .before .before .before .before .before .before) .args in stored (s .out .now) _ _ _ _ (s .at) (s .kind) _ _ _ _ (s .shape) (c .before .before .before .before .before .before .before .before .before .before .before .before .before .before .put-number .ensures) (c .before .before .before .before .before .before .before .before .before .before .put-number2 .ensures) (c .before .before .before .before .before .before .put-number3 .ensures) (c .before .before .put-number4 .ensures)
 
 pub put-record-spec : {M : Type 1} → statement M
 put-record-spec =

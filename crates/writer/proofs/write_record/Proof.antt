@@ -4,7 +4,7 @@ use Rattle.writer.proofs.write_record.Statement.{statement}
 use Rattle.writer.proofs.write_record.Tie as tie
 use native.Mathlib.Omega.{arith}
 use Rattle.bundle.specs.Opened.{answerMeant}
-use Rattle.writer.proofs.RecordLaws.{shape-written, no-kind}
+use Rattle.writer.proofs.KindLaws.{shape-written, no-kind}
 
 shape-of-requires : tie.Need-shape-of-requires
 shape-of-requires c κs = search needs
@@ -22,11 +22,11 @@ same-length : tie.Need-same-length
 same-length c = search needs
 
 returns : tie.Need-returns
-returns c = shape-written (c .before .before .before .before .before .before .before .before .before .args .kind) (c .before .before .before .before .before .before .before .before .before .args .a) (c .before .before .before .before .before .before .before .before .before .args .b) (c .before .before .before .before .before .before .before .before .before .args .c) (c .before .before .before .before .before .before .before .before .before .args .d) _ (omega arith, (omega arith, (omega arith, (omega arith, tt)))) (c .before .before .before .before .before .before .before .shape-of .ensures) _ (c .before .before .before .before .before .shaped .given .1) (c .before .before .write-shape .ensures)
+returns c = shape-written _ _ _ _ _ _ (omega arith, (omega arith, (omega arith, (omega arith, tt)))) (c .before .before .before .before .before .before .before .shape-of .ensures) _ (c .before .before .before .before .before .shaped .given .1) (c .before .before .write-shape .ensures)
 
 returns-2 : tie.Need-returns-2
 unfolding answerMeant
-returns-2 c = no-kind (c .before .before .before .before .args .kind) (c .before .before .before .before .args .a) (c .before .before .before .before .args .b) (c .before .before .before .before .args .c) (c .before .before .before .before .args .d) _ (omega arith, (omega arith, (omega arith, (omega arith, tt)))) (c .before .before .shape-of .ensures) _ _ (c .enum-told .given .1)
+returns-2 c = no-kind _ _ _ _ _ _ (omega arith, (omega arith, (omega arith, (omega arith, tt)))) (c .before .before .shape-of .ensures) _ _ (c .enum-told .given .1)
 
 pub write-record-spec : {M : Type 1} → statement M
 write-record-spec =
