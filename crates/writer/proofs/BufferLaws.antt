@@ -20,7 +20,8 @@ use Rattle.meaning.specs.Calls.{Answer, Outcome, result, answerOf, placesAfter}
 use Rattle.meaning.specs.Writing.{Field, most, fault, fieldItems, bodyItems, firstFault, fieldsOf, recordDue, writing, bundleRecords, Writes, nothing, record-first}
 use Rattle.meaning.proofs.WritingLaws.{bundle-writes, records-read-back}
 use Rattle.writer.specs.Places.{CallFrom, placesFrom, endOf, given, recordsAfter}
-use Rattle.writer.proofs.RecordLaws.{sets-both, stored-from, fits}
+use Rattle.writer.proofs.RecordLaws.{sets-both, stored-from}
+use Rattle.meaning.proofs.WritingLaws.{fits}
 use Rattle.writer.proofs.KindLaws.{short, kind-short}
 
 -- Values that are not given count as 0.

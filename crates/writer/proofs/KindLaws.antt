@@ -24,7 +24,8 @@ use Rattle.writer.specs.declared.Shaped.{Shaped}
 use Rattle.writer.specs.declared.Shaped.the-variants.{Body, None}
 use Rattle.writer.specs.Shapes.{width, noPart, firstPart, others, shapeOf, shapedOf, fieldOf, shapeFields}
 use Rattle.writer.specs.Places.{CallFrom}
-use Rattle.writer.proofs.RecordLaws.{fits, refused-from}
+use Rattle.writer.proofs.RecordLaws.{refused-from}
+use Rattle.meaning.proofs.WritingLaws.{fits}
 
 -- The fields of a kind, padded to as many as there are values, ask the same of values that fit 8 bytes.
 
