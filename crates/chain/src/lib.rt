@@ -415,3 +415,123 @@ pub fn search(
     };
     deliver(names, queue, parents, entry, to, list)
 }
+
+// The chain over `count` edges that stand in the bytes from `at` on, with lists that have room for them. What these hold before is free.
+fn find_with(
+    bytes: &[u8],
+    at: usize,
+    count: usize,
+    from: u16,
+    to: u16,
+    names: &mut [u16],
+    table: &mut [u16],
+    ends: &mut [u16],
+    first: &mut [u16],
+    next: &mut [u16],
+    queue: &mut [u16],
+    parents: &mut [u16],
+    places: &mut [u16],
+    list: &mut [u16],
+) -> Found
+    requires { ⌜ HasEdges (now bytes) at count ⌝ }
+    requires { ⌜ Room count (now names) (now ends) (now first) (now next) ⌝ }
+    requires { ⌜ Workspace count (now queue) (now parents) ⌝ }
+    ensures { λ r. ⌜ Answers (chainOf (graphAt (now (bytes .entry)) at count) from to) (now (list .entry)) (now (list .exit)) r ⌝ }
+{
+    let m = prepare(bytes, at, count, names, table, ends, first, next);
+    search(
+        names,
+        table,
+        ends,
+        first,
+        next,
+        count,
+        m,
+        from,
+        to,
+        queue,
+        parents,
+        places,
+        list,
+    )
+}
+
+// The chain over at most 64 edges: short lists, and a table for the names below 256.
+fn find_few(bytes: &[u8], at: usize, count: usize, from: u16, to: u16, list: &mut [u16]) -> Found
+    requires { ⌜ HasEdges (now bytes) at count × (count ≤ 64) ⌝ }
+    ensures { λ r. ⌜ Answers (chainOf (graphAt (now (bytes .entry)) at count) from to) (now (list .entry)) (now (list .exit)) r ⌝ }
+{
+    let mut names = [0u16; 128];
+    let mut table = [0u16; 256];
+    let mut ends = [0u16; 128];
+    let mut first = [0u16; 128];
+    let mut next = [0u16; 64];
+    let mut queue = [0u16; 65];
+    let mut parents = [0u16; 65];
+    let mut places = [0u16; 128];
+    find_with(
+        bytes,
+        at,
+        count,
+        from,
+        to,
+        &mut names,
+        &mut table,
+        &mut ends,
+        &mut first,
+        &mut next,
+        &mut queue,
+        &mut parents,
+        &mut places,
+        list,
+    )
+}
+
+// The chain over at most 1,024 edges, with a table for every name.
+fn find_many(bytes: &[u8], at: usize, count: usize, from: u16, to: u16, list: &mut [u16]) -> Found
+    requires { ⌜ HasEdges (now bytes) at count ⌝ }
+    ensures { λ r. ⌜ Answers (chainOf (graphAt (now (bytes .entry)) at count) from to) (now (list .entry)) (now (list .exit)) r ⌝ }
+{
+    let mut names = [0u16; 2048];
+    let mut table = [0u16; 65536];
+    let mut ends = [0u16; 2048];
+    let mut first = [0u16; 2048];
+    let mut next = [0u16; 1024];
+    let mut queue = [0u16; 1025];
+    let mut parents = [0u16; 1025];
+    let mut places = [0u16; 2048];
+    find_with(
+        bytes,
+        at,
+        count,
+        from,
+        to,
+        &mut names,
+        &mut table,
+        &mut ends,
+        &mut first,
+        &mut next,
+        &mut queue,
+        &mut parents,
+        &mut places,
+        list,
+    )
+}
+
+// The chain from `from` to `to` over `count` edges that stand in the bytes from `at` on, into the first places of `list`.
+pub fn find_chain_at(
+    bytes: &[u8],
+    at: usize,
+    count: usize,
+    from: u16,
+    to: u16,
+    list: &mut [u16],
+) -> Found
+    requires { ⌜ HasEdges (now bytes) at count ⌝ }
+    ensures { λ r. ⌜ Answers (chainOf (graphAt (now (bytes .entry)) at count) from to) (now (list .entry)) (now (list .exit)) r ⌝ }
+{
+    if count <= 64 {
+        return find_few(bytes, at, count, from, to, list);
+    }
+    find_many(bytes, at, count, from, to, list)
+}
