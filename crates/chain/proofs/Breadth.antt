@@ -1,10 +1,9 @@
 -- Breadth-first search finds first walks: mathematics of `Queue`, with no code in it.
 --     start-queue                     the queue of one entry
---     no-edge, known-end, push        one edge followed: not from this entry, to a name that has an entry, to a new name
+--     skip, known, push               past edges that are not from this entry, past one to a name that has an entry, past one to a new name
 --     next-head                       on to the next entry
---     entry-first                     every entry has the first walk to its name
---     entry-of                        the entries up to h are the names reached no later than that of h
 --     first-found, all-found, none-found   what the search finds
+--     walk-end                        where a walk ends
 --     room                            a queue has at most one entry more than there are edges
 use Prim.Native.Nat.{ℕ, zero, suc, _+_, _≤_, _<_}
 use mathlib.Core.Path.{_≡_, refl, sym, ap, _∙_, subst}
@@ -16,8 +15,7 @@ use lib.ListN.{length}
 use lib.Seq.{append-snoc}
 use Rattle.meaning.specs.Chain.{Graph, IsWalk, Before, IsFirstWalk}
 use Rattle.chain.specs.Queue.{Passed, HasEntry, Queue, IsEnd}
-use Rattle.meaning.proofs.Order.{before-irrefl, before-trans, before-snoc, before-last, before-longer, before-nil, before-atMost, AtMost, atMost-trans, atMost-snoc, atMost-last}
-use Rattle.meaning.proofs.Walks.{order}
+use Rattle.meaning.proofs.Order.{before-trans, before-snoc, before-last, before-longer, before-nil, before-atMost, AtMost, atMost-trans, atMost-snoc, atMost-last}
 use Rattle.chain.proofs.Put.{put, put-here, put-below, below-one-more}
 use Rattle.meaning.proofs.Pigeonhole.{pigeonhole}
 
@@ -83,43 +81,6 @@ module _ (g : Graph) (start : ℕ) (name : ℕ → ℕ) (path : ℕ → List ℕ
   -- and a name without an entry is not reached
   pub none-found : n ≤ h → (b : ℕ) → ((i : ℕ) → i < n → name i ≡ b → ⊥) → (es : List ℕ) → IsWalk g start es b → ⊥
   none-found l b absent es w = let t = all-found l b es w in absent (t .0) (t .1) (t .2)
-
-  -- every entry has the first walk to its name
-  pub entry-first : (i : ℕ) → i < n → IsFirstWalk g start (name i) (path i)
-  unfolding Ahead
-  entry-first i l =
-      record {
-        walk = q .walks i l;
-        first = λ fs w.
-            ⊎-elim
-            (λ (t : HasEntry name path n (name i) fs). subst (λ (k : ℕ). AtMost (path k) fs) (one (t .0) (t .1) (t .2)) (t .3))
-            (λ (t : Ahead fs). inr (before-atMost (q .below (left t) i l) (ahead-first (left t) fs t)))
-            (reach [] fs start (name i) start-entry w);
-      }
-    where
-      left : {fs : List ℕ} → Ahead fs → h < n
-      left t = ⊎-elim (λ (s : h < t .0). omega (arith, t .2)) (λ (s : (h ≡ t .0) × (e ≤ t .1)). omega (arith, t .2)) (t .3)
-
-      one : (k : ℕ) → k < n → name k ≡ name i → k ≡ i
-      one k a p =
-          ⊎-elim (λ (s : k < i). absurd (q .apart k i s l p))
-          (λ (s : (k ≡ i) ⊎ (i < k)). ⊎-elim (λ (r : k ≡ i). r) (λ (r : i < k). absurd (q .apart i k r a (sym p))) s)
-          (order k i)
-
-  -- a name that is reached by a walk that does not come after that of entry h is the name of an entry up to h
-  pub entry-of : h < n → (x : ℕ) (es : List ℕ) → IsWalk g start es x → AtMost es (path h) → (i : ℕ) × (i ≤ h) × (name i ≡ x)
-  entry-of l x es w s =
-      ⊎-elim
-      (λ (t : HasEntry name path n x es). (t .0, up-to t, t .2))
-      (λ (t : Ahead es).
-      absurd (before-irrefl (before-atMost (before-longer (path h) [] e) (atMost-trans (ahead-first l es t) s))))
-      (reach [] es start x start-entry w)
-    where
-      up-to : (t : HasEntry name path n x es) → t .0 ≤ h
-      up-to t =
-          by-cases (decLt h (t .0))
-          (λ (r : h < t .0). absurd (before-irrefl (before-atMost (q .rising h (t .0) r (t .1)) (atMost-trans (t .3) s))))
-          (λ (r : ¬ (h < t .0)). omega arith)
 
   module _ (l : h < n) (m : e < g .count) (from : g .from e ≡ name h) (absent : (i : ℕ) → i < n → name i ≡ g .to e → ⊥) where
     -- the edge e from entry h ends at a name that has no entry: its walk is the first

@@ -5,22 +5,21 @@
 use Prim.Native.Nat.{ℕ, zero, suc, _+_, _*_, _/_, _%_, _≤_, _<_}
 use mathlib.Core.Path.{_≡_, refl, sym, ap, ap₂, _∙_, subst}
 use mathlib.Core.Logic.{⊎-elim, by-cases, _⊎_}
-use mathlib.Core.Bool.{Bool, true, false, cond}
+use mathlib.Core.Bool.{false, cond}
 use mathlib.Core.List.{List, [], _∷_, _++_, map, map-append}
 use mathlib.Core.Option.{Option, none, some, Option·map}
 use native.Mathlib.Omega.{arith}
-use native.Mathlib.Decide.{decLt, ℕ-discrete}
+use native.Mathlib.Decide.{decLt}
 use borrow.Author.Tests.{eq-eqb, ne-eqb, lt-ltb, le-ltb}
 use lib.Dec.{eqb, ltb}
 use lib.ListN.{length, getD}
-use Rattle.meaning.specs.Chain.{Graph, IsWalk, nameAt, chainOf, firstWalk}
+use Rattle.meaning.specs.Chain.{Graph, IsWalk, nameAt, chainOf}
 use Rattle.meaning.proofs.ChainLaws.{firstWalk-no}
 use Rattle.meaning.proofs.Chains.{Renamed, chainOf-map}
 use Rattle.meaning.proofs.Walks.{order}
-use Rattle.chain.specs.Edges.{graphAt, endAt}
+use Rattle.chain.specs.Edges.{graphAt}
 use Rattle.chain.specs.Index.{Named, Numbering, numbered, Indexed, HasEnds, EndsBelow, Prepared}
-use Rattle.chain.specs.Members.{Members}
-use Rattle.chain.specs.Queue.{Holds, IsEnd, Rising, chainBy, chainTo, namesOf, Hit}
+use Rattle.chain.specs.Queue.{Holds, chainBy, chainTo, namesOf, Hit}
 use Rattle.chain.proofs.Entries.{name-of}
 use Rattle.chain.proofs.Breadth.{walk-end}
 

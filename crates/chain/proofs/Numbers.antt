@@ -2,8 +2,8 @@
 --     name-read           the two bytes of a name
 --     numbering-none      before the first
 --     numbering-more      one end of an edge more
-use Prim.Native.Nat.{ℕ, _+_, _*_, _≤_, _<_}
-use mathlib.Core.Path.{_≡_, refl, sym, ap, _∙_, subst}
+use Prim.Native.Nat.{ℕ, _+_, _≤_, _<_}
+use mathlib.Core.Path.{_≡_, _∙_}
 use mathlib.Core.Logic.{⊎-elim, by-cases}
 use mathlib.Core.List.{List}
 use native.Mathlib.Omega.{arith}
@@ -15,7 +15,7 @@ use lib.Seq.{getD-set-same, getD-set-other}
 use Rattle.meaning.specs.Chain.{nameAt}
 use Rattle.meaning.specs.Reader.{little}
 use Rattle.chain.specs.Edges.{endAt}
-use Rattle.chain.specs.Members.{Members, Entered, grown}
+use Rattle.chain.specs.Members.{Entered, grown}
 use Rattle.chain.specs.Index.{Named, Numbering}
 use Rattle.chain.proofs.Put.{below-one-more}
 use Rattle.chain.proofs.Members.{members-none}

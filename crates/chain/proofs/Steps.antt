@@ -1,7 +1,7 @@
 -- The steps of the search on the names and parents that the code stores.
 --     searching-start                the first entry
 --     searching-skip                 past edges that are not from the entry's name
---     searching-other, -known, -push one edge followed
+--     searching-known, -push         one edge followed
 --     searching-added                the two of them by what `add_new` did
 --     searching-next                 on to the next entry
 --     searching-room                 a new name leaves room for its entry
@@ -72,9 +72,6 @@ module _ (g : Graph) (start to : ℕ) (names parents : List ℕ) (n h e : ℕ) (
         → Searching g start to names parents n h k
     unfolding name
     searching-skip k m ne = on h k (skip g start _ (s .path) n h e (s .queue) k l m ne)
-
-    pub searching-other : (g .from e ≡ getD names h 0 → ⊥) → Searching g start to names parents n h (e + 1)
-    searching-other ne = searching-skip (e + 1) (omega arith) (λ f a b c from. ne (ap (g .from) (omega arith) ∙ from))
 
     pub searching-known : Holds names n (g .to e) true → Searching g start to names parents n h (e + 1)
     unfolding name

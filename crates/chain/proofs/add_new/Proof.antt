@@ -1,17 +1,11 @@
 -- `chain::add_new` meets its contract.
-use mathlib.Core.Path.{_≡_, refl, sym, ap, _∙_, subst}
-use Prim.Native.Nat.{ℕ, _+_, _-_, _*_, _≤_, _<_}
-use Rattle.chain.specs.Members.{Members}
+use mathlib.Core.Path.{refl}
 use Rattle.chain.specs.Queue.{kept, added}
 use Rattle.chain.proofs.Members.{missing, pushed}
 use native.Mathlib.Omega.{arith}
 use borrow.Author.Needs.{needs}
 use Rattle.chain.proofs.add_new.Statement.{statement}
 use Rattle.chain.proofs.add_new.Tie as tie
-use Rattle.chain.proofs.add_new.Reads as reads
-use Rattle.chain.proofs.add_new.Lts as lts
-use Rattle.chain.proofs.place_of.Reads as place-of-reads
-use Rattle.chain.proofs.push.Reads as push-reads
 
 place-of-requires : tie.Need-place-of-requires
 place-of-requires c κs = search needs

@@ -6,8 +6,6 @@ use native.Mathlib.Omega.{arith}
 use borrow.Author.Needs.{needs}
 use Rattle.chain.proofs.alone.Statement.{statement}
 use Rattle.chain.proofs.alone.Tie as tie
-use Rattle.chain.proofs.alone.Reads as reads
-use Rattle.chain.proofs.alone.Lts as lts
 
 returns : tie.Need-returns
 returns c = narrow [] _ _ 0 refl (omega arith)

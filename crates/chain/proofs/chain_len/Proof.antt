@@ -1,6 +1,6 @@
 -- `chain::chain_len` meets its contract. The loop goes from an entry to its parent; the names counted and those of the chain that is left are one more than all.
-use Prim.Native.Nat.{ℕ, _+_, _-_, _*_, _≤_, _<_}
-use mathlib.Core.Path.{_≡_, refl, sym, ap, _∙_, subst}
+use Prim.Native.Nat.{ℕ, _+_, _≤_, _<_}
+use mathlib.Core.Path.{_≡_, ap, _∙_}
 use mathlib.Core.List.{List}
 use lib.ListN.{length, getD}
 use Rattle.chain.specs.Queue.{chainTo}
@@ -9,8 +9,6 @@ use native.Mathlib.Omega.{arith}
 use borrow.Author.Needs.{needs}
 use Rattle.chain.proofs.chain_len.Statement.{statement}
 use Rattle.chain.proofs.chain_len.Tie as tie
-use Rattle.chain.proofs.chain_len.Reads as reads
-use Rattle.chain.proofs.chain_len.Lts as lts
 
 abbrev Inv-loop : tie.InvT-loop
 Inv-loop parents entry i₀ len₀ i len =

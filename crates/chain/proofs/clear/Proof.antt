@@ -1,15 +1,13 @@
 -- `chain::clear` meets its contract.
-use Prim.Native.Nat.{ℕ, _+_, _-_, _*_, _≤_, _<_}
-use mathlib.Core.Path.{_≡_, refl, sym, ap, _∙_, subst}
+use Prim.Native.Nat.{ℕ, _-_, _≤_}
+use mathlib.Core.Path.{_≡_, refl, ap, _∙_}
 use mathlib.Core.List.{List, _++_, append-nil}
-use lib.ListN.{length, length-set, length-append, length-replicate, length-drop, drop-of-length-le, drop, set, replicate}
-use borrow.Author.Fill.{fill-none, fill-more}
+use lib.ListN.{length, length-set, drop-of-length-le, drop, set, replicate}
+use borrow.Author.Fill.{fill-more}
 use native.Mathlib.Omega.{arith}
 use borrow.Author.Needs.{needs}
 use Rattle.chain.proofs.clear.Statement.{statement}
 use Rattle.chain.proofs.clear.Tie as tie
-use Rattle.chain.proofs.clear.Reads as reads
-use Rattle.chain.proofs.clear.Lts as lts
 
 abbrev Inv-loop : tie.InvT-loop
 Inv-loop places₀ value i₀ places i = (length places ≡ length places₀) × (i ≤ length places₀) × (places ≡ replicate i value ++ drop i places₀)

@@ -5,10 +5,6 @@ use native.Mathlib.Omega.{arith}
 use borrow.Author.Needs.{needs}
 use Rattle.chain.proofs.deliver.Statement.{statement}
 use Rattle.chain.proofs.deliver.Tie as tie
-use Rattle.chain.proofs.deliver.Reads as reads
-use Rattle.chain.proofs.deliver.Lts as lts
-use Rattle.chain.proofs.chain_len.Reads as chain-len-reads
-use Rattle.chain.proofs.fill.Reads as fill-reads
 
 chain-len-requires : tie.Need-chain-len-requires
 chain-len-requires c κs = search needs

@@ -1,13 +1,8 @@
 -- `chain::enter` meets its contract.
 use Rattle.chain.proofs.Members.{entered-old, entered-new}
-use native.Mathlib.Omega.{arith}
 use borrow.Author.Needs.{needs}
 use Rattle.chain.proofs.enter.Statement.{statement}
 use Rattle.chain.proofs.enter.Tie as tie
-use Rattle.chain.proofs.enter.Reads as reads
-use Rattle.chain.proofs.enter.Lts as lts
-use Rattle.chain.proofs.place_of.Reads as place-of-reads
-use Rattle.chain.proofs.push.Reads as push-reads
 
 place-of-requires : tie.Need-place-of-requires
 place-of-requires c κs = search needs

@@ -1,11 +1,11 @@
 -- `chain::explore` meets its contract. The invariant is the state of the search; the entries that are left fall.
-use Prim.Native.Nat.{ℕ, _+_, _-_, _*_, _≤_, _<_}
-use mathlib.Core.Path.{_≡_, refl, sym, ap, _∙_, subst}
+use Prim.Native.Nat.{ℕ, _+_, _-_, _*_, _<_}
+use mathlib.Core.Path.{_≡_, refl, _∙_, subst}
 use mathlib.Core.List.{List}
 use mathlib.Core.Logic.{⊎-elim}
 use lib.ListN.{length, getD}
 use Rattle.meaning.specs.Chain.{Graph}
-use Rattle.chain.specs.Index.{numbered, EndsBelow}
+use Rattle.chain.specs.Index.{numbered}
 use Rattle.chain.specs.Members.{Members}
 use Rattle.chain.specs.Queue.{Searching, MembersAfter}
 use Rattle.chain.specs.declared.Followed.{Followed}
@@ -17,9 +17,6 @@ use native.Mathlib.Omega.{arith}
 use borrow.Author.Needs.{needs}
 use Rattle.chain.proofs.explore.Statement.{statement}
 use Rattle.chain.proofs.explore.Tie as tie
-use Rattle.chain.proofs.explore.Reads as reads
-use Rattle.chain.proofs.explore.Lts as lts
-use Rattle.chain.proofs.follow.Reads as follow-reads
 
 members-all : {queue places : List ℕ} {r : Followed} (m : ℕ) → r ≡ All m → MembersAfter queue places r → Members queue places m
 members-all {queue} {places} m p a = subst (λ (x : Followed). MembersAfter queue places x) p a

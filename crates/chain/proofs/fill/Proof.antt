@@ -1,8 +1,7 @@
 -- `chain::fill` meets its contract. The loop writes from the back: the places from k on are done, and the chain of entry i goes before them.
-use Prim.Native.Nat.{ℕ, _+_, _-_, _*_, _≤_, _<_}
-use mathlib.Core.Path.{_≡_, refl, sym, ap, _∙_, subst}
-use mathlib.Core.List.{List}
-use lib.ListN.{length, getD}
+use Prim.Native.Nat.{ℕ, _+_, _-_, _<_}
+use mathlib.Core.Path.{_≡_, subst}
+use lib.ListN.{getD}
 use Rattle.chain.specs.Queue.{namesOf}
 use Rattle.chain.proofs.Entries.{name-of}
 use Rattle.chain.proofs.Filling.{Filling, filling-start, filling-turn, filling-end}
@@ -10,8 +9,6 @@ use native.Mathlib.Omega.{arith}
 use borrow.Author.Needs.{needs}
 use Rattle.chain.proofs.fill.Statement.{statement}
 use Rattle.chain.proofs.fill.Tie as tie
-use Rattle.chain.proofs.fill.Reads as reads
-use Rattle.chain.proofs.fill.Lts as lts
 
 abbrev Inv-loop : tie.InvT-loop
 Inv-loop names queue parents entry len list₀ i₀ k₀ list i k = Filling (namesOf names queue) parents list₀ list entry len i k

@@ -1,17 +1,10 @@
 -- `chain::find_chain` meets its contract: what the bytes are refused for, or what was found for the bundle that they are.
-use mathlib.Core.Path.{_≡_, sym, ap, _∙_}
-use lib.ListN.{length}
 use Rattle.bundle.proofs.AnswerLaws.{opened-layout, opened-refused}
 use Rattle.chain.proofs.Called.{called, turned-down}
 use native.Mathlib.Omega.{arith}
 use borrow.Author.Needs.{needs}
 use Rattle.chain.proofs.find_chain.Statement.{statement}
 use Rattle.chain.proofs.find_chain.Tie as tie
-use Rattle.chain.proofs.find_chain.Reads as reads
-use Rattle.chain.proofs.find_chain.Lts as lts
-use Rattle.bundle.proofs.open.Reads as open-reads
-use Rattle.chain.proofs.answer_for.Reads as answer-for-reads
-use Rattle.chain.proofs.find_chain_at.Reads as find-chain-at-reads
 
 open-requires : tie.Need-open-requires
 open-requires c κs = search needs

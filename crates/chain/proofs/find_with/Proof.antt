@@ -1,12 +1,7 @@
 -- `chain::find_with` meets its contract.
-use native.Mathlib.Omega.{arith}
 use borrow.Author.Needs.{needs}
 use Rattle.chain.proofs.find_with.Statement.{statement}
 use Rattle.chain.proofs.find_with.Tie as tie
-use Rattle.chain.proofs.find_with.Reads as reads
-use Rattle.chain.proofs.find_with.Lts as lts
-use Rattle.chain.proofs.prepare.Reads as prepare-reads
-use Rattle.chain.proofs.search.Reads as search-reads
 
 prepare-requires : tie.Need-prepare-requires
 prepare-requires c κs = search needs

@@ -1,6 +1,6 @@
 -- `chain::follow` meets its contract. The invariant is the state of the search before edge e, which is from the number of the entry; the edges that are left fall.
-use Prim.Native.Nat.{ℕ, _+_, _-_, _*_, _≤_, _<_}
-use mathlib.Core.Path.{_≡_, refl, sym, ap, _∙_, subst}
+use Prim.Native.Nat.{ℕ, _+_, _-_, _<_}
+use mathlib.Core.Path.{_≡_, refl, sym, _∙_, subst}
 use mathlib.Core.List.{List}
 use lib.ListN.{length, getD}
 use Rattle.meaning.specs.Chain.{Graph}
@@ -12,9 +12,6 @@ use native.Mathlib.Omega.{arith}
 use borrow.Author.Needs.{needs}
 use Rattle.chain.proofs.follow.Statement.{statement}
 use Rattle.chain.proofs.follow.Tie as tie
-use Rattle.chain.proofs.follow.Reads as reads
-use Rattle.chain.proofs.follow.Lts as lts
-use Rattle.chain.proofs.add_new.Reads as add-new-reads
 
 -- the search before edge e, which is from the number of the entry
 record Inv (g : Graph) (start to head x : ℕ) (queue parents places : List ℕ) (n e : ℕ) : Type 0 where

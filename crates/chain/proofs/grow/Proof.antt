@@ -1,11 +1,8 @@
 -- `chain::grow` meets its contract.
 use borrow.Author.Tests.{eq-eqb, ne-eqb}
-use native.Mathlib.Omega.{arith}
 use borrow.Author.Needs.{needs}
 use Rattle.chain.proofs.grow.Statement.{statement}
 use Rattle.chain.proofs.grow.Tie as tie
-use Rattle.chain.proofs.grow.Reads as reads
-use Rattle.chain.proofs.grow.Lts as lts
 
 add-result : tie.Need-add-result
 add-result c = search needs

@@ -1,6 +1,6 @@
 -- `chain::link` meets its contract. The invariant: the edges from e on are linked.
-use Prim.Native.Nat.{ℕ, _+_, _-_, _*_, _≤_, _<_}
-use mathlib.Core.Path.{_≡_, refl, sym, ap, _∙_, subst}
+use Prim.Native.Nat.{ℕ, _-_, _*_, _≤_}
+use mathlib.Core.Path.{_≡_, refl, subst}
 use lib.ListN.{length, length-set, getD}
 use Rattle.chain.specs.Index.{numbered, Indexed}
 use Rattle.chain.proofs.Links.{index-more}
@@ -8,8 +8,6 @@ use native.Mathlib.Omega.{arith}
 use borrow.Author.Needs.{needs}
 use Rattle.chain.proofs.link.Statement.{statement}
 use Rattle.chain.proofs.link.Tie as tie
-use Rattle.chain.proofs.link.Reads as reads
-use Rattle.chain.proofs.link.Lts as lts
 
 abbrev Inv-loop : tie.InvT-loop
 Inv-loop ends count first₀ next₀ e₀ first next e = (e ≤ count) × Indexed (numbered ends count) e first next × (length first ≡ length first₀) × (length next ≡ length next₀)

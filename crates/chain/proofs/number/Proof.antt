@@ -1,19 +1,13 @@
 -- `chain::number` meets its contract. The invariant: the ends before i are numbered.
-use Prim.Native.Nat.{ℕ, _+_, _-_, _*_, _≤_, _<_}
-use mathlib.Core.Path.{_≡_, refl, sym, ap, _∙_, subst}
-use mathlib.Core.List.{List}
-use lib.ListN.{length, length-set, getD}
+use Prim.Native.Nat.{ℕ, _-_, _*_, _≤_}
+use mathlib.Core.Path.{_≡_, refl, _∙_, subst}
+use lib.ListN.{length, length-set}
 use Rattle.chain.specs.Index.{Numbering}
 use Rattle.chain.proofs.Numbers.{name-read, numbering-none, numbering-more}
 use native.Mathlib.Omega.{arith}
 use borrow.Author.Needs.{needs}
 use Rattle.chain.proofs.number.Statement.{statement}
 use Rattle.chain.proofs.number.Tie as tie
-use Rattle.chain.proofs.number.Reads as reads
-use Rattle.chain.proofs.number.Lts as lts
-use Rattle.bundle.proofs.u16_at.Reads as u16-at-reads
-use Rattle.chain.proofs.enter.Reads as enter-reads
-use Rattle.chain.proofs.grow.Reads as grow-reads
 
 abbrev Inv-loop : tie.InvT-loop
 Inv-loop bytes at count names₀ table₀ ends₀ m₀ i₀ names table ends m i =

@@ -1,13 +1,9 @@
 -- `chain::place_of` meets its contract.
-use mathlib.Core.Path.{_≡_, refl, sym, ap, _∙_, subst}
 use Rattle.chain.proofs.Members.{at-place, no-place}
 use native.Mathlib.Omega.{arith}
 use borrow.Author.Needs.{needs}
 use Rattle.chain.proofs.place_of.Statement.{statement}
 use Rattle.chain.proofs.place_of.Tie as tie
-use Rattle.chain.proofs.place_of.Reads as reads
-use Rattle.chain.proofs.place_of.Lts as lts
-use Rattle.chain.proofs.scan.Reads as scan-reads
 
 scan-requires : tie.Need-scan-requires
 scan-requires c κs = search needs

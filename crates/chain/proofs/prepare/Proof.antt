@@ -1,19 +1,13 @@
 -- `chain::prepare` meets its contract.
-use Prim.Native.Nat.{ℕ, _+_, _-_, _*_, _≤_, _<_}
-use mathlib.Core.Path.{_≡_, refl, sym, ap, _∙_, subst}
-use lib.ListN.{length, length-replicate}
-use Rattle.chain.specs.Index.{numbered, Indexed}
+use mathlib.Core.Path.{_≡_}
+use lib.ListN.{length}
+use Rattle.chain.specs.Index.{numbered}
 use Rattle.chain.proofs.Links.{index-none}
 use Rattle.chain.proofs.Named.{prepared}
 use native.Mathlib.Omega.{arith}
 use borrow.Author.Needs.{needs}
 use Rattle.chain.proofs.prepare.Statement.{statement}
 use Rattle.chain.proofs.prepare.Tie as tie
-use Rattle.chain.proofs.prepare.Reads as reads
-use Rattle.chain.proofs.prepare.Lts as lts
-use Rattle.chain.proofs.clear.Reads as clear-reads
-use Rattle.chain.proofs.link.Reads as link-reads
-use Rattle.chain.proofs.number.Reads as number-reads
 
 number-requires : tie.Need-number-requires
 number-requires c κs = search needs

@@ -1,12 +1,10 @@
 -- `chain::push` meets its contract: a place behind the end of a list is not written.
-use mathlib.Core.Path.{_≡_, refl, sym, ap, _∙_, subst}
+use mathlib.Core.Path.{refl, sym}
 use lib.Seq.{set-out}
 use native.Mathlib.Omega.{arith}
 use borrow.Author.Needs.{needs}
 use Rattle.chain.proofs.push.Statement.{statement}
 use Rattle.chain.proofs.push.Tie as tie
-use Rattle.chain.proofs.push.Reads as reads
-use Rattle.chain.proofs.push.Lts as lts
 
 mul-members : tie.Need-mul-members
 mul-members c = search needs

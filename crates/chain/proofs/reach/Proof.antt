@@ -1,12 +1,11 @@
 -- `chain::reach` meets its contract.
-use Prim.Native.Nat.{ℕ, _+_, _-_, _*_, _≤_, _<_}
-use mathlib.Core.Path.{_≡_, refl, sym, ap, _∙_, subst}
+use Prim.Native.Nat.{ℕ, _<_}
+use mathlib.Core.Path.{_≡_, sym, _∙_, subst}
 use mathlib.Core.List.{List}
 use mathlib.Core.List.{List}
 use lib.ListN.{length, getD, set}
 use lib.Seq.{getD-set-same}
 use Rattle.chain.specs.Index.{numbered}
-use Rattle.chain.specs.Members.{Members}
 use Rattle.chain.specs.Queue.{AfterSearch}
 use Rattle.chain.proofs.Members.{members-none, pushed}
 use Rattle.chain.proofs.Steps.{searching-start}
@@ -14,10 +13,6 @@ use native.Mathlib.Omega.{arith}
 use borrow.Author.Needs.{needs}
 use Rattle.chain.proofs.reach.Statement.{statement}
 use Rattle.chain.proofs.reach.Tie as tie
-use Rattle.chain.proofs.reach.Reads as reads
-use Rattle.chain.proofs.reach.Lts as lts
-use Rattle.chain.proofs.explore.Reads as explore-reads
-use Rattle.chain.proofs.push.Reads as push-reads
 
 -- the first entry of a list that was empty
 first-entry : (queue : List ℕ) {queue′ : List ℕ} (x : ℕ) → 0 < length queue → queue′ ≡ set queue 0 x → getD queue′ 0 0 ≡ x

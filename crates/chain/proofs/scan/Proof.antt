@@ -1,6 +1,6 @@
 -- `chain::scan` meets its contract: no member passed is x.
-use Prim.Native.Nat.{ℕ, _+_, _-_, _*_, _≤_, _<_}
-use mathlib.Core.Path.{_≡_, refl, sym, ap, _∙_, subst}
+use Prim.Native.Nat.{ℕ, _+_, _-_, _≤_, _<_}
+use mathlib.Core.Path.{_≡_, sym, ap, _∙_}
 use mathlib.Core.List.{List}
 use mathlib.Core.Logic.{⊎-elim, _⊎_}
 use lib.ListN.{getD}
@@ -13,8 +13,6 @@ use native.Mathlib.Omega.{arith}
 use borrow.Author.Needs.{needs}
 use Rattle.chain.proofs.scan.Statement.{statement}
 use Rattle.chain.proofs.scan.Tie as tie
-use Rattle.chain.proofs.scan.Reads as reads
-use Rattle.chain.proofs.scan.Lts as lts
 
 found : {members : List ℕ} {n x i : ℕ} → ((i j : ℕ) → i < j → j < n → getD members i 0 ≡ getD members j 0 → ⊥) → Holds members i x false → i < n
     → getD members i 0 ≡ x → PlaceOf members n x i

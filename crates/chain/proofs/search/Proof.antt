@@ -1,9 +1,9 @@
 -- `chain::search` meets its contract: the name itself, a name that no edge has, or what `reach` found between the numbers.
-use Prim.Native.Nat.{ℕ, _+_, _-_, _<_}
+use Prim.Native.Nat.{ℕ, _<_}
 use mathlib.Core.Path.{_≡_, sym, ap, _∙_, subst}
 use mathlib.Core.List.{List, [], _∷_}
 use mathlib.Core.Option.{some}
-use lib.ListN.{length, getD}
+use lib.ListN.{getD}
 use Rattle.meaning.specs.Chain.{chainOf}
 use Rattle.meaning.proofs.ChainLaws.{chain-self}
 use Rattle.chain.specs.Index.{numbered, Named}
@@ -18,12 +18,6 @@ use native.Mathlib.Omega.{arith}
 use borrow.Author.Needs.{needs}
 use Rattle.chain.proofs.search.Statement.{statement}
 use Rattle.chain.proofs.search.Tie as tie
-use Rattle.chain.proofs.search.Reads as reads
-use Rattle.chain.proofs.search.Lts as lts
-use Rattle.chain.proofs.alone.Reads as alone-reads
-use Rattle.chain.proofs.deliver.Reads as deliver-reads
-use Rattle.chain.proofs.place_of.Reads as place-of-reads
-use Rattle.chain.proofs.reach.Reads as reach-reads
 
 -- a number that was found is that of the name
 is-named : {names : List ℕ} {m x r : ℕ} → PlaceOf names m x r → (r ≡ m → ⊥) → Named names m r x
