@@ -458,37 +458,6 @@ fn find_with(
     )
 }
 
-// The chain over at most 8 edges: lists that are made in no time, and no table to speak of.
-fn find_tiny(bytes: &[u8], at: usize, count: usize, from: u16, to: u16, list: &mut [u16]) -> Found
-    requires { ⌜ HasEdges (now bytes) at count × (count ≤ 8) ⌝ }
-    ensures { λ r. ⌜ Answers (chainOf (graphAt (now (bytes .entry)) at count) from to) (now (list .entry)) (now (list .exit)) r ⌝ }
-{
-    let mut names = [0u16; 16];
-    let mut table = [0u16; 8];
-    let mut ends = [0u16; 16];
-    let mut first = [0u16; 16];
-    let mut next = [0u16; 8];
-    let mut queue = [0u16; 9];
-    let mut parents = [0u16; 9];
-    let mut places = [0u16; 16];
-    find_with(
-        bytes,
-        at,
-        count,
-        from,
-        to,
-        &mut names,
-        &mut table,
-        &mut ends,
-        &mut first,
-        &mut next,
-        &mut queue,
-        &mut parents,
-        &mut places,
-        list,
-    )
-}
-
 // The chain over at most 64 edges: short lists, and a table for the names below 256.
 fn find_few(bytes: &[u8], at: usize, count: usize, from: u16, to: u16, list: &mut [u16]) -> Found
     requires { ⌜ HasEdges (now bytes) at count × (count ≤ 64) ⌝ }
@@ -563,9 +532,6 @@ pub fn find_chain_at(
     requires { ⌜ HasEdges (now bytes) at count ⌝ }
     ensures { λ r. ⌜ Answers (chainOf (graphAt (now (bytes .entry)) at count) from to) (now (list .entry)) (now (list .exit)) r ⌝ }
 {
-    if count <= 8 {
-        return find_tiny(bytes, at, count, from, to, list);
-    }
     if count <= 64 {
         return find_few(bytes, at, count, from, to, list);
     }
