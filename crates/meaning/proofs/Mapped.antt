@@ -118,7 +118,7 @@ module _ (f : ℕ → ℕ) where
   expr-mapped (binary k l r) = both-mapped (byte k ∷ exprItems l) (exprItems r) (ap (byte k ∷_) (expr-mapped l)) (expr-mapped r)
   expr-mapped (unary k e) = ap (byte k ∷_) (expr-mapped e)
 
-  count-mapped : (ms : Members) → memberCount (mapMembers f ms) ≡ memberCount ms
+  pub count-mapped : (ms : Members) → memberCount (mapMembers f ms) ≡ memberCount ms
   unfolding memberCount
   count-mapped none = refl
   count-mapped (more m ms) = ap suc (count-mapped ms)
