@@ -12,6 +12,7 @@ pub mod ReadWithin
 pub mod Flat
 pub mod Mapped
 pub mod Acceptance
+pub mod CallLaws
 pub mod WritingLaws
 pub mod ReadingExamples
 pub mod Order

@@ -18,3 +18,4 @@ pub mod Chain
 pub mod Violations
 pub mod Report
 pub mod Renumbering
+pub mod Due
