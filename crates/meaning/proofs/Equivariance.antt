@@ -15,7 +15,7 @@ use lib.Dec.{ltb}
 use lib.ListN.{length, length-map, replicate}
 use borrow.Author.Tests.{ltb-true, ltb-false, lt-ltb}
 use Rattle.names.specs.Names.{numbering, nameCount, Names, Exchange}
-use Rattle.names.specs.Documents.{Item, byte, name, mapNames}
+use Rattle.names.specs.Documents.{byte, name, mapNames}
 use Rattle.names.proofs.Exchanged.{name-of, map-same}
 use Rattle.names.proofs.Swap.{to-injective, swap, swap-left, swap-other, swap-swap}
 use Rattle.names.proofs.Items.{mapNames-append}

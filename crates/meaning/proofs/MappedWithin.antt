@@ -1,11 +1,9 @@
 -- A map that sends names to names keeps a tree within the limits.
-use Prim.Native.Nat.{ℕ, suc, _≤_, max}
-use mathlib.Core.Path.{_≡_, refl, ap, ap₂, _∙_}
+use Prim.Native.Nat.{ℕ, suc, max}
+use mathlib.Core.Path.{_≡_, refl, ap, ap₂}
 use mathlib.Core.List.{List, [], _∷_, map}
-use lib.ListN.{length, length-map}
-use Rattle.names.specs.Documents.{bytes}
+use lib.ListN.{length-map}
 use Rattle.names.proofs.Documents.{length-map-names}
-use Rattle.meaning.specs.Limits.{depthLimit}
 use Rattle.meaning.specs.Tree.{Expr, literal, fieldRef, sizeof, alignof, binary, unary}
 use Rattle.meaning.specs.Tree.{Ty, primitive, typeRef, struct, union, enum, array, sizeUnion, Member, member, Members, none, more, Definition, Edge, Bundle}
 use Rattle.meaning.specs.Encoding.{memberCount, bundleItems, bundleBytes}

@@ -1,27 +1,25 @@
 -- What is due to a call of `renumber`, and what it answers.
 use Prim.Native.Nat.{ℕ, _≤_, _<_}
 use mathlib.Core.Bool.{false}
-use mathlib.Core.Logic.{_↔_}
 use mathlib.Core.List.{List, _++_}
-use mathlib.Core.Path.{_≡_, refl, sym, ap, subst, _∙_}
+use mathlib.Core.Path.{_≡_, refl, subst}
 use lib.ListN.{length, drop}
 use borrow.Author.Tests.{le-leb, lt-leb}
-use Rattle.names.specs.Names.{Alike}
-use Rattle.names.specs.Records.{mapBytes, renumberBytes}
+use Rattle.names.specs.Records.{renumberBytes}
 use Rattle.names.proofs.Records.{length-renumbered}
 use Rattle.meaning.specs.Kinds.{body}
 use Rattle.meaning.specs.Limits.{sizeLimit}
 use Rattle.meaning.specs.Tree.{Bundle}
 use Rattle.meaning.specs.Circle.{circles}
 use Rattle.meaning.specs.Encoding.{Bytes, bundleBytes}
+use Rattle.meaning.specs.Due.{renumbering}
 use Rattle.meaning.specs.Calls.{Outcome, result, refusal, onBundle, answerOf, placesAfter, Call, Accepted}
-use Rattle.meaning.proofs.Acceptance.{accepted-of, accepted-due}
-use Rattle.meaning.proofs.RenumberingLaws.{bytes-below, accepted-whole, renumbered-alike}
+use Rattle.meaning.proofs.Acceptance.{accepted-of}
+use Rattle.meaning.proofs.RenumberingLaws.{bytes-below, accepted-whole, renumbering-due}
 use Rattle.bundle.specs.declared.Answer.the-variants.{Accepted as Gave, Refused}
 use Rattle.bundle.specs.declared.Layout.{Layout}
 use Rattle.bundle.specs.Definitions.{bundleOf}
 use Rattle.bundle.specs.Opened.{LayoutOf, answerMeant}
-use Rattle.renumber.specs.Renumbering.{renumbering}
 
 -- what was opened is accepted
 pub opened-accepted : {s : List ℕ} {l : Layout} {places : List ℕ} → Bytes s → LayoutOf s l places × (circles (bundleOf s) ≡ false) → Accepted s
@@ -29,21 +27,6 @@ opened-accepted {s} bound o = accepted-of s bound (bundleOf s) (length s) (o .0 
 
 pub accepted-small : {s : List ℕ} → Accepted s → length s ≤ sizeLimit
 accepted-small a = subst (λ t. length t ≤ sizeLimit) (a .encoded) (a .within .size)
-
--- the renumbered bytes are due
-pub renumbering-due : {s : List ℕ} → Accepted s → renumbering s ≡ result (renumberBytes body s)
-unfolding renumbering
-renumbering-due a =
-    ap renumbering (sym (a .encoded))
-    ∙ accepted-due (λ b. result (renumberBytes body (bundleBytes b))) (a .tree) (a .within) (a .straight)
-    ∙ ap (λ t. result (renumberBytes body t)) (a .encoded)
-
--- two bundles are renumbered to one exactly where they are alike
-pub renumbering-alike : {s t : List ℕ} → Bytes s → Bytes t → Accepted s → Accepted t → (renumbering s ≡ renumbering t) ↔ Alike (mapBytes body) s t
-renumbering-alike {s} {t} s-bytes t-bytes a b = (λ e. same .0 (let p = renumbering-due a in let q = renumbering-due b in cc), λ k. renumbering-due a ∙ ap result (same .1 k) ∙ sym (renumbering-due b))
-  where
-    same : (renumberBytes body s ≡ renumberBytes body t) ↔ Alike (mapBytes body) s t
-    same = renumbered-alike s t s-bytes t-bytes b
 
 -- the answers
 

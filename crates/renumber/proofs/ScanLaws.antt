@@ -6,7 +6,7 @@ use mathlib.Core.Bool.{Bool, true, false, cond}
 use mathlib.Core.List.{List, [], _∷_, _++_, append-assoc, append-nil}
 use mathlib.Core.Path.{_≡_, refl, sym, ap, ap₂, subst, _∙_}
 use lib.Dec.{eqb}
-use lib.ListN.{length, getD, take, drop, set, length-append, length-drop, drop-of-length-le}
+use lib.ListN.{length, getD, drop, set, length-append, length-drop, drop-of-length-le}
 use lib.Seq.{drop-cons, set-at}
 use Rattle.names.specs.Names.{distinct, numbering, nameCount}
 use Rattle.names.specs.Documents.{Item, byte, name, bytes, names, renumberItems}

@@ -1,5 +1,9 @@
 // Renumbers the names of a bundle by first appearance.
-use bundle::{Answer, ExprForm, Form, Opening, TypeForm};
+use bundle::Answer;
+use bundle::ExprForm;
+use bundle::Form;
+use bundle::Opening;
+use bundle::TypeForm;
 ghost use mathlib.Core.Path.{_≡_};
 ghost use mathlib.Core.List.{[], _++_};
 ghost use Prim.Native.Nat.{_+_, _≤_, _<_};
@@ -13,7 +17,7 @@ ghost use Rattle.meaning.specs.Calls.{Call};
 ghost use Rattle.bundle.specs.View.{formMeant};
 ghost use Rattle.bundle.specs.Opened.{answerMeant};
 ghost use Rattle.renumber.specs.Scan.{due, nameFirst, behind, Put};
-ghost use Rattle.renumber.specs.Renumbering.{renumbering};
+ghost use Rattle.meaning.specs.Due.{renumbering};
 
 // The parts of a record's body that are still to come: bytes, then names, then bytes.
 struct Parts(u8, u8, u8);
