@@ -6,23 +6,23 @@ use mathlib.Core.Logic.{_⊎_, inl, inr, ⊎-elim}
 use borrow.Author.Tests.{eqb-true, eqb-false}
 use mathlib.Core.Option.{some, none as nowhere}
 use mathlib.Core.Path.{_≡_, refl, sym, ap, ap₂, subst, _∙_}
-use mathlib.Core.List.{List, [], _∷_, _++_, List·Memᴰ, List·Memᴰ·head, Memᴰ·append-left, Memᴰ·append-right}
+use mathlib.Core.List.{List, [], _∷_, _++_, List·Memᴰ, List·Memᴰ·head, List·Memᴰ·eq-of-singleton, Memᴰ·append-left, Memᴰ·append-right}
 use lib.Dec.{eqb}
-use lib.ListN.{length, getD, set, length-set}
+use lib.ListN.{length, getD, set, replicate, length-set}
 use lib.Seq.{getD-set-same, getD-set-other}
 use Rattle.meaning.specs.Circle.{typeNames, resolve, leadsTo, settled, circles}
 use Rattle.meaning.specs.Kinds.{Form, OfType, Primitive, TypeRef, Struct, Union, Enum, Array, SizeUnion}
 use Rattle.meaning.specs.Lists.{holds}
-use Rattle.meaning.specs.Lookup.{listOf, definitionOf, findType}
+use Rattle.meaning.specs.Lookup.{listOf, count, definitionOf, findType}
 use Rattle.meaning.specs.Lookup as lookup
 use Rattle.meaning.specs.Reader.{Read, ok, refused, many, little}
 use Rattle.meaning.specs.ReadExpr.{readExpr}
 use Rattle.meaning.specs.ReadType.{head, arrayHead, memberHead, readMember, readMembers, readGroup, readEnum, readArray, readTy}
 use Rattle.meaning.specs.References.{isConstant}
-use Rattle.meaning.specs.Sizes.{answer, oneSize}
+use Rattle.meaning.specs.Sizes.{answer, oneSize, namedSizeDepends, inlineSizeDepends, containsJaggedArray}
 use Rattle.meaning.specs.Tree.{Expr, literal, Attributes, Ty, primitive, typeRef, struct, union, enum, array, sizeUnion, member, Members, none, more}
 use Rattle.meaning.proofs.Readings.{due-ok}
-use Rattle.meaning.proofs.Circle.{settled-zero, settled-step}
+use Rattle.meaning.proofs.Circle.{resolve-below, settled-zero, settled-step, settled-of}
 use Rattle.meaning.proofs.Sizes.{named-test, jagged-test, answer-equation}
 use Rattle.bundle.specs.declared.Count.the-variants.{Of}
 use Rattle.bundle.specs.declared.Step.{Step}
@@ -42,7 +42,7 @@ use Rattle.sizes.proofs.Heads.{ended-reads, ended}
 use Rattle.sizes.proofs.Parts.{array-at, type-reads, others-read, others-end, members-tree, members-none}
 use Rattle.sizes.specs.declared.Tested.{Tested}
 use Rattle.sizes.specs.declared.Tested.the-variants.{Holds, Fails}
-use Rattle.sizes.specs.Tests.{namedOf, inlineOf, someOf, known, namedHolds, inlineHolds, someHolds, answerAt, testedOf, markOf, isHolds, exprCounts, arrayCounts, Kept, Ready}
+use Rattle.sizes.specs.Tests.{namedOf, inlineOf, someOf, known, namedHolds, inlineHolds, someHolds, answerAt, testedOf, markOf, isHolds, exprCounts, arrayCounts, Kept, Ready, Acyclic, definitionSizeDepends, definitionContainsJagged}
 
 -- what the answer says
 pub tested-holds : (x : Bool) (m : ℕ) → isHolds (testedOf x (Next m)) ≡ x
@@ -428,3 +428,48 @@ module _ (s : List ℕ) (j : Bool) (b n i e : ℕ) (c : Of n i ≡ countOf (head
     pub named-tag : isHolds t ≡ false → false ≡ oneSize (listOf (membersAt 23 0x52 n s e)) → (x : Bool) → x ≡ isConstant (exprAt 23 s i)
         → not x ≡ namedHolds j s (valueOr (primitive 0) (readEnum (readExpr 23) (readTy 23) s b))
     named-tag p o x y = ap not y ∙ sym (enum-named j s 23 b n i e c r g q ∙ rw (sym is ∙ p, ← o))
+
+-- In a bundle in which nothing circles, as many steps as there are definitions are enough.
+module _ {s : List ℕ} {n : ℕ} {places : List ℕ} (tb : Table s n places) (a : Acyclic s) (j : Bool) {kept : List ℕ} (k : Kept s j kept) where
+  ready-by : (ds : List ℕ) → ((i : ℕ) → List·Memᴰ i ds → i < count (bundleOf s)) → Ready s j n ds kept
+  ready-by ds below = record {
+    small = a .small;
+    ends = a .ends;
+    within = λ i m. subst (λ x. settled (bundleOf s) x i ≡ true) (sym (tb .count)) (settled-of (bundleOf s) (a .ends) i (below i m));
+    keeps = k;
+  }
+
+  pub ready-definition : (i : ℕ) → i < n → Ready s j n (i ∷ []) kept
+  ready-definition i h = ready-by (i ∷ []) (λ x m. rw (List·Memᴰ·eq-of-singleton m) (omega (arith, tb .count)))
+
+  pub ready-type : (t : Ty) → Ready s j n (typeLeads (bundleOf s) t) kept
+  unfolding typeLeads
+  ready-type t = ready-by (typeLeads (bundleOf s) t) (λ x m. resolve-below (bundleOf s) (typeNames t) x m)
+
+-- what the answers mean
+module _ (s : List ℕ) where
+  pub size-answer : (i : ℕ) → answerAt false s i ≡ definitionSizeDepends (bundleOf s) i
+  unfolding answerAt namedHolds namedSizeDepends
+  size-answer i = refl
+
+  pub jagged-answer : (i : ℕ) → answerAt true s i ≡ definitionContainsJagged (bundleOf s) i
+  unfolding answerAt namedHolds containsJaggedArray
+  jagged-answer i = refl
+
+  module _ (d at : ℕ) (r : Reads (readTy d s at)) (t : Tested) where
+    pub size-inline : t ≡ testedOf (inlineHolds false s (typeAt d s at)) (stepOf (readTy d s at)) → isHolds t ≡ inlineSizeDepends (bundleOf s) (typeAt d s at)
+    unfolding inlineHolds inlineSizeDepends
+    size-inline e = ap isHolds e ∙ answer-is (inlineHolds false s (typeAt d s at)) (readTy d s at) r
+
+    pub jagged-inline : t ≡ testedOf (inlineHolds true s (typeAt d s at)) (stepOf (readTy d s at)) → isHolds t ≡ containsJaggedArray (bundleOf s) (typeAt d s at)
+    unfolding inlineHolds containsJaggedArray
+    jagged-inline e = ap isHolds e ∙ answer-is (inlineHolds true s (typeAt d s at)) (readTy d s at) r
+
+-- nothing is known yet
+pub kept-start : (s : List ℕ) (j : Bool) → Kept s j (replicate 256 0)
+kept-start s j = record { size = refl; no = λ i e. absurd (omega (arith, zeros 256 i, e)); yes = λ i e. absurd (omega (arith, zeros 256 i, e)) }
+  where
+    zeros : (n i : ℕ) → _≡_ {A = ℕ} (getD (replicate n 0) i 0) 0
+    zeros zero i = refl
+    zeros (suc n) zero = refl
+    zeros (suc n) (suc i) = zeros n i

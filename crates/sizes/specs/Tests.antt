@@ -11,8 +11,8 @@ use Rattle.meaning.specs.Lists.{holds}
 use Rattle.meaning.specs.Lookup.{typeAt}
 use Rattle.meaning.specs.Reader.{Read}
 use Rattle.meaning.specs.ReadType.{Group}
-use Rattle.meaning.specs.Sizes.{Test, answer, typeSizeDependsOnFieldRefs, typeSizeDependsOnFieldRefsRecursive, someSizeDepends, typeContainsJaggedArray, someContainsJagged}
-use Rattle.meaning.specs.Tree.{Expr, Ty, primitive, Members, none}
+use Rattle.meaning.specs.Sizes.{Test, answer, typeSizeDependsOnFieldRefs, typeSizeDependsOnFieldRefsRecursive, someSizeDepends, typeContainsJaggedArray, someContainsJagged, namedSizeDepends, containsJaggedArray}
+use Rattle.meaning.specs.Tree.{Expr, Ty, primitive, Members, none, Bundle}
 use Rattle.meaning.specs.References.{isConstant}
 use Rattle.bundle.specs.declared.Step.{Step}
 use Rattle.bundle.specs.declared.Step.the-variants.{Next, Refused}
@@ -72,6 +72,19 @@ pub record Ready (s : List ℕ) (jagged : Bool) (left : ℕ) (ds kept : List ℕ
   pub ends : circles (bundleOf s) ≡ false
   pub within : (i : ℕ) → List·Memᴰ i ds → settled (bundleOf s) left i ≡ true
   pub keeps : Kept s jagged kept
+
+-- a bundle in which nothing circles
+pub record Acyclic (s : List ℕ) : Type 0 where
+  pub small : length s ≤ sizeLimit
+  pub ends : circles (bundleOf s) ≡ false
+
+-- the size of definition i depends on field references
+abbrev pub definitionSizeDepends : Bundle → ℕ → Bool
+definitionSizeDepends b i = holds (namedSizeDepends b) (typeAt b i)
+
+-- a jagged array is in definition i or in what it leads to
+abbrev pub definitionContainsJagged : Bundle → ℕ → Bool
+definitionContainsJagged b i = holds (containsJaggedArray b) (typeAt b i)
 
 -- A type, members, or a group of them that were read as x: before they are tested, and the answer r.
 

@@ -4,7 +4,7 @@ use bundle::ExprForm;
 use bundle::Form;
 use bundle::Step;
 use bundle::TypeForm;
-ghost use mathlib.Core.Bool.{false};
+ghost use mathlib.Core.Bool.{true, false};
 ghost use mathlib.Core.List.{_∷_, []};
 ghost use mathlib.Core.Path.{_≡_};
 ghost use Prim.Native.Nat.{_+_, _*_, _≤_, _<_};
@@ -17,14 +17,14 @@ ghost use Rattle.meaning.specs.Reader.{ok, little, namesFrom};
 ghost use Rattle.meaning.specs.ReadExpr.{readExpr};
 ghost use Rattle.meaning.specs.ReadType.{readTy, readMembers, readGroup, readEnum, readArray};
 ghost use Rattle.meaning.specs.References.{isConstant, collectFieldReferencesRecursive};
-ghost use Rattle.meaning.specs.Sizes.{getPrimitiveSize, hasSize, oneSize, isEnumWithConstantSizeVariants};
+ghost use Rattle.meaning.specs.Sizes.{getPrimitiveSize, hasSize, oneSize, isEnumWithConstantSizeVariants, inlineSizeDepends, containsJaggedArray};
 ghost use Rattle.meaning.specs.Tree.{typeRef};
 ghost use Rattle.meaning.specs.Violations.{typeNeedsFieldRefForLayout};
 ghost use Rattle.bundle.specs.View.{exprFormMeant, typeFormMeant, formMeant, Reads};
 ghost use Rattle.bundle.specs.Definitions.{typeAt, membersAt, bundleOf, Table};
 ghost use Rattle.bundle.specs.Expressions.{exprAt};
 ghost use Rattle.sizes.specs.Paths.{Fit, targetMeant, sizeShown};
-ghost use Rattle.sizes.specs.Tests.{markOf, isHolds, exprCounts, arrayCounts, answerAt, Kept, Ready, TypeToTest, TypeTested, NamedTested, MembersToTest, MembersTested, GroupToTest, GroupTested};
+ghost use Rattle.sizes.specs.Tests.{markOf, isHolds, exprCounts, arrayCounts, answerAt, Acyclic, definitionSizeDepends, definitionContainsJagged, Kept, Ready, TypeToTest, TypeTested, NamedTested, MembersToTest, MembersTested, GroupToTest, GroupTested};
 ghost use Rattle.sizes.specs.Scan.{exprEnd, typeEnd, recordEnd, namesIn, namesOf, pathAt, referencesFrom, pathsFrom, foundOf, Fits};
 
 // The position of a field reference.
@@ -685,4 +685,62 @@ fn members_test(
         rest -= 1;
     }
     Tested::Fails(next)
+}
+
+// Whether the size of definition `i` depends on field references. `kept` has the size test's answers.
+pub fn type_size_depends_on_field_refs(
+    s: &[u8],
+    places: &[u16; 256],
+    count: usize,
+    kept: &mut [u8; 256],
+    i: usize,
+) -> bool
+    requires { ⌜ Table (now s) count (now places) × (i < count) × Acyclic (now s) × Kept (now s) false (now kept) ⌝ }
+    ensures { λ r. ⌜ (r ≡ definitionSizeDepends (bundleOf (now (s .entry))) i) × Kept (now (s .entry)) false (now (kept .exit)) ⌝ }
+{
+    named_type_test(s, places, count, kept, false, i, count)
+}
+
+// Whether a jagged array is in definition `i` or in what it leads to. `kept` has the jagged test's answers.
+pub fn definition_contains_jagged_array(
+    s: &[u8],
+    places: &[u16; 256],
+    count: usize,
+    kept: &mut [u8; 256],
+    i: usize,
+) -> bool
+    requires { ⌜ Table (now s) count (now places) × (i < count) × Acyclic (now s) × Kept (now s) true (now kept) ⌝ }
+    ensures { λ r. ⌜ (r ≡ definitionContainsJagged (bundleOf (now (s .entry))) i) × Kept (now (s .entry)) true (now (kept .exit)) ⌝ }
+{
+    named_type_test(s, places, count, kept, true, i, count)
+}
+
+// Whether the size of the type that was read at `at`, written inline, depends on field references.
+pub fn type_size_depends_on_field_refs_recursive(
+    s: &[u8],
+    places: &[u16; 256],
+    count: usize,
+    kept: &mut [u8; 256],
+    at: usize,
+    depth: usize,
+) -> bool
+    requires { ⌜ Table (now s) count (now places) × Reads (readTy depth (now s) at) × Acyclic (now s) × Kept (now s) false (now kept) ⌝ }
+    ensures { λ r. ⌜ (r ≡ inlineSizeDepends (bundleOf (now (s .entry))) (typeAt depth (now (s .entry)) at)) × Kept (now (s .entry)) false (now (kept .exit)) ⌝ }
+{
+    is_holds(inline_type_test(s, places, count, kept, false, at, depth, count))
+}
+
+// Whether a jagged array is in the type that was read at `at` or in what it leads to.
+pub fn type_contains_jagged_array(
+    s: &[u8],
+    places: &[u16; 256],
+    count: usize,
+    kept: &mut [u8; 256],
+    at: usize,
+    depth: usize,
+) -> bool
+    requires { ⌜ Table (now s) count (now places) × Reads (readTy depth (now s) at) × Acyclic (now s) × Kept (now s) true (now kept) ⌝ }
+    ensures { λ r. ⌜ (r ≡ containsJaggedArray (bundleOf (now (s .entry))) (typeAt depth (now (s .entry)) at)) × Kept (now (s .entry)) true (now (kept .exit)) ⌝ }
+{
+    is_holds(inline_type_test(s, places, count, kept, true, at, depth, count))
 }
