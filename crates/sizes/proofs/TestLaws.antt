@@ -4,13 +4,13 @@ use native.Mathlib.Omega.{arith}
 use mathlib.Core.Bool.{Bool, true, false, not, _&&_, _||_}
 use mathlib.Core.Logic.{_⊎_, inl, inr, ⊎-elim}
 use borrow.Author.Tests.{eqb-true, eqb-false}
-use mathlib.Core.Option.{some, none as nowhere}
+use mathlib.Core.Option.{some}
 use mathlib.Core.Path.{_≡_, refl, sym, ap, ap₂, subst, _∙_}
 use mathlib.Core.List.{List, [], _∷_, _++_, List·Memᴰ, List·Memᴰ·head, List·Memᴰ·eq-of-singleton, Memᴰ·append-left, Memᴰ·append-right}
 use lib.Dec.{eqb}
 use lib.ListN.{length, getD, set, replicate, length-set}
 use lib.Seq.{getD-set-same, getD-set-other}
-use Rattle.meaning.specs.Circle.{typeNames, resolve, leadsTo, settled, circles}
+use Rattle.meaning.specs.Circle.{typeNames, settled, circles}
 use Rattle.meaning.specs.Kinds.{Form, OfType, Primitive, TypeRef, Struct, Union, Enum, Array, SizeUnion}
 use Rattle.meaning.specs.Lists.{holds}
 use Rattle.meaning.specs.Lookup.{listOf, count, definitionOf, findType}
@@ -20,13 +20,12 @@ use Rattle.meaning.specs.ReadExpr.{readExpr}
 use Rattle.meaning.specs.ReadType.{head, arrayHead, memberHead, readMember, readMembers, readGroup, readEnum, readArray, readTy}
 use Rattle.meaning.specs.References.{isConstant}
 use Rattle.meaning.specs.Sizes.{answer, oneSize, namedSizeDepends, inlineSizeDepends, containsJaggedArray}
-use Rattle.meaning.specs.Tree.{Expr, literal, Attributes, Ty, primitive, typeRef, struct, union, enum, array, sizeUnion, member, Members, none, more}
+use Rattle.meaning.specs.Tree.{Expr, Attributes, Ty, primitive, typeRef, struct, union, enum, array, member, Members, none, more}
 use Rattle.meaning.proofs.Readings.{due-ok}
 use Rattle.meaning.proofs.Circle.{resolve-below, settled-zero, settled-step, settled-of}
 use Rattle.meaning.proofs.Sizes.{named-test, jagged-test, answer-equation}
 use Rattle.bundle.specs.declared.Count.the-variants.{Of}
-use Rattle.bundle.specs.declared.Step.{Step}
-use Rattle.bundle.specs.declared.Step.the-variants.{Next, Refused}
+use Rattle.bundle.specs.declared.Step.the-variants.{Next}
 use Rattle.bundle.specs.View.{stepOf, countOf, Reads, valueOr}
 use Rattle.bundle.specs.Definitions.{typeAt, membersAt, zeroGroup, bundleOf, Table}
 use Rattle.bundle.specs.Expressions.{exprAt}
@@ -35,28 +34,19 @@ use Rattle.bundle.proofs.CircleLaws.{resolve-one, resolve-append}
 use Rattle.bundle.proofs.ExprLaws.{Opened}
 use Rattle.bundle.proofs.Steps.{many-none}
 use Rattle.bundle.proofs.LeadLaws.{definition-leads, typeRef-there, typeRef-next}
-use Rattle.bundle.proofs.LookupLaws.{placed-at, placed-type, found-type, found-none}
+use Rattle.bundle.proofs.LookupLaws.{placed-at, placed-type, found-none}
 use Rattle.bundle.proofs.TypeLaws.{primitive-ends, struct-ends, union-ends, sizeUnion-ends, enum-ends, array-ends, group-ends, enum-members, array-element}
 use Rattle.bundle.proofs.TypeTrees.{primitive-tree, typeRef-tree, struct-tree, union-tree, sizeUnion-tree, enum-tree, array-tree, group-value, variants-read, enum-value, array-value, array-last}
-use Rattle.sizes.proofs.Heads.{ended-reads, ended}
-use Rattle.sizes.proofs.Parts.{array-at, type-reads, others-read, others-end, members-tree, members-none}
+use Rattle.bundle.proofs.Trees.{ended-reads, ended}
+use Rattle.bundle.proofs.PartTrees.{member-type-reads, others-read, members-split}
+use Rattle.sizes.proofs.Parts.{array-at, others-end, members-none}
 use Rattle.sizes.specs.declared.Tested.{Tested}
 use Rattle.sizes.specs.declared.Tested.the-variants.{Holds, Fails}
 use Rattle.sizes.specs.Tests.{namedOf, inlineOf, someOf, known, namedHolds, inlineHolds, someHolds, answerAt, testedOf, markOf, isHolds, exprCounts, arrayCounts, Kept, Ready, Acyclic, definitionSizeDepends, definitionContainsJagged}
 
--- what the answer says
-pub tested-holds : (x : Bool) (m : ℕ) → isHolds (testedOf x (Next m)) ≡ x
-unfolding testedOf
-tested-holds true m = refl
-tested-holds false m = refl
-
 -- the definitions that are tested next may be said in another way
 pub ready-same : {s : List ℕ} {j : Bool} {left : ℕ} {ds es kept : List ℕ} → ds ≡ es → Ready s j left ds kept → Ready s j left es kept
 ready-same {s} {j} {left} {ds} {es} {kept} e g = subst (λ xs. Ready s j left xs kept) e g
-
--- and what is kept has moved on
-pub ready-kept : {s : List ℕ} {j : Bool} {left : ℕ} {ds kept after : List ℕ} → Ready s j left ds kept → Kept s j after → Ready s j left ds after
-ready-kept g k = record { small = g .small; ends = g .ends; within = g .within; keeps = k }
 
 -- The tests of a type by its form.
 module _ (j : Bool) (s : List ℕ) where
@@ -249,14 +239,14 @@ module _ {s : List ℕ} {j : Bool} {left d k n at : ℕ} {kept : List ℕ} {next
   -- the type of the first of them stands at i
   module _ (h : 0 < rest) (i : ℕ) (e : Next i ≡ stepOf (memberHead k s next)) where
     ty : Reads (readTy d s i)
-    ty = type-reads d k s rest next h (t .reads) i e
+    ty = member-type-reads d k s rest next h (t .reads) i e
 
     split : (m : ℕ) (g : Next m ≡ stepOf (readTy d s i)) → someHolds j s (membersAt d k rest s next) ≡ (inlineHolds j s (typeAt d s i) || someHolds j s (membersAt d k (rest - 1) s m))
-    split m g = ap (someHolds j s) (members-tree d k s rest next h (t .reads) i e m g) ∙ more-some j s _ _ _ _
+    split m g = ap (someHolds j s) (members-split d k s rest next h (t .reads) i e m g) ∙ more-some j s _ _ _ _
 
     leads : (m : ℕ) (g : Next m ≡ stepOf (readTy d s i)) → membersLead (bundleOf s) (membersAt d k rest s next) ≡ typeLeads (bundleOf s) (typeAt d s i) ++ membersLead (bundleOf s) (membersAt d k (rest - 1) s m)
     unfolding membersLead typeLeads
-    leads m g = ap (membersLead (bundleOf s)) (members-tree d k s rest next h (t .reads) i e m g) ∙ resolve-append (bundleOf s) (typeNames (typeAt d s i)) _
+    leads m g = ap (membersLead (bundleOf s)) (members-split d k s rest next h (t .reads) i e m g) ∙ resolve-append (bundleOf s) (typeNames (typeAt d s i)) _
 
     -- it is tested next
     pub testing-inside : Ready s j left (typeLeads (bundleOf s) (typeAt d s i)) kept
@@ -284,7 +274,7 @@ module _ {s : List ℕ} {j : Bool} {left d k n at : ℕ} {kept : List ℕ} {next
         let a = answer-no (inlineHolds j s (typeAt d s i)) (readTy d s i) m q in
         record {
           reads = others-read d k s rest next h (t .reads) i e m (a .1);
-          step = sym (others-end d k s rest next h (t .reads) i e m (a .1)) ∙ t .step;
+          step = sym (others-end d k s rest next h (t .reads) i m e (a .1)) ∙ t .step;
           some = sym (split m (a .1) ∙ rw (a .0)) ∙ t .some;
           ready = record {
             small = t .ready .small;

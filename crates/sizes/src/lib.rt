@@ -175,10 +175,18 @@ pub fn parse_field_reference(s: &[u8], at: usize, current: u16) -> Target
 {
     let n = path_length(s, at);
     if n <= 1 {
-        return Target { name: current, count: n, at: at + 1 };
+        return Target {
+            name: current,
+            count: n,
+            at: at + 1,
+        };
     }
     let name = bundle::u16_at(s, at + 1);
-    Target { name: name, count: n - 1, at: at + 3 }
+    Target {
+        name: name,
+        count: n - 1,
+        at: at + 3,
+    }
 }
 
 // Whether the n names at `p` are those at `q`.
@@ -452,7 +460,16 @@ fn definition_test(
     match t {
         TypeForm::Primitive => false,
         TypeForm::TypeRef => false,
-        TypeForm::Struct => is_holds(inline_type_test(s, places, count, kept, jagged, at, 24, left)),
+        TypeForm::Struct => is_holds(inline_type_test(
+            s,
+            places,
+            count,
+            kept,
+            jagged,
+            at,
+            24,
+            left,
+        )),
         TypeForm::Union => is_holds(inline_type_test(s, places, count, kept, jagged, at, 24, left)),
         TypeForm::Enum => enum_definition_test(s, places, count, kept, jagged, at + 1, left),
         TypeForm::Array => !is_constant(s, at + 11, 23),
@@ -570,7 +587,18 @@ fn group_test(
 {
     let head = bundle::count_at(s, at);
     match head {
-        Count::Of(n, next) => members_test(s, places, count, kept, jagged, next, depth, kind, n, left),
+        Count::Of(n, next) => members_test(
+            s,
+            places,
+            count,
+            kept,
+            jagged,
+            next,
+            depth,
+            kind,
+            n,
+            left,
+        ),
         Count::Wrong(_) => Tested::Holds,
     }
 }

@@ -48,7 +48,7 @@ use Rattle.sizes.proofs.one_size.Reads as one-size-reads
 use Rattle.sizes.proofs.+array_test+definition_test+enum_definition_test+enum_test+group_test+inline_type_test+members_test+named_type_test+reference_test.{statement}
 use Rattle.sizes.proofs.+array_test+definition_test+enum_definition_test+enum_test+group_test+inline_type_test+members_test+named_type_test+reference_test.Tie.{close}
 use Prim.Native.Nat.{_+_, _*_}
-use mathlib.Core.Path.{_≡_, refl, sym, ap, _∙_}
+use mathlib.Core.Path.{sym, ap, _∙_}
 use Rattle.meaning.specs.Lookup.{definitionOf}
 use Rattle.bundle.specs.Definitions.{bundleOf, zeroGroup}
 use Rattle.bundle.specs.Circles.{typeLeads, membersLead}
@@ -58,9 +58,10 @@ use Rattle.bundle.proofs.LookupLaws.{placed-at, place-there}
 use Rattle.bundle.proofs.PartTrees.{group-no, enum-no, tag-no, array-no, size-no}
 use Rattle.bundle.proofs.TypeTrees.{type-deep, type-there, no-other, struct-reads, union-reads, sizeUnion-reads, enum-reads, array-reads, enum-tree, array-tree}
 use Rattle.bundle.proofs.TypeTrees.{group-reads, group-value, tag-reads, variants-read, size-reads, element-reads}
-use Rattle.sizes.specs.Tests.{namedHolds, inlineHolds, testedOf}
+use Rattle.sizes.specs.Tests.{namedHolds}
 use Rattle.sizes.proofs.Heads.{array-where}
-use Rattle.sizes.proofs.Parts.{type-opened, own-no, type-reads}
+use Rattle.bundle.proofs.PartTrees.{head-no, member-type-reads}
+use Rattle.sizes.proofs.Parts.{type-opened}
 use Rattle.sizes.proofs.ReferenceLaws.{size-there}
 use Rattle.sizes.proofs.TestLaws.{enum-inline, array-inline, ready-same, primitive-tested, typeRef-tested, struct-tested, union-tested, sizeUnion-tested, sizeUnion-size, group-tested, enum-counts, enum-tested, array-counts, array-tested}
 use Rattle.sizes.proofs.TestLaws.{Testing, testing-start, testing-end, testing-inside, testing-holds, testing-next, name-tested, name-none, name-ready, some-left, definition-ready, definition-answer, definition-kept}
@@ -615,10 +616,10 @@ members-test-enum-told : Ask-members-test members-test-lts.Need-enum-told
 members-test-enum-told t c = search needs
 
 members-test-returns : Ask-members-test members-test-lts.Need-returns
-members-test-returns t c = absurd (own-no _ _ _ _ _ (c .before .before .before .loop-test .taken) (c .before .before .before .before .loop .inv .reads) _ (sym (c .enum-told .given .1) ∙ c .before .before .member-head-at .ensures))
+members-test-returns t c = absurd (head-no _ _ _ _ _ (c .before .before .before .loop-test .taken) (c .before .before .before .before .loop .inv .reads) _ (sym (c .enum-told .given .1) ∙ c .before .before .member-head-at .ensures))
 
 members-test-inline-type-test-requires : Ask-members-test members-test-lts.Need-inline-type-test-requires
-members-test-inline-type-test-requires t c κs = (omega (arith, c .before .before .before .before .before .before .before .before .pre .0), (c .before .before .before .before .before .before .before .before .pre .1 .0, (type-reads _ _ _ _ _ (c .before .before .before .before .before .loop-test .taken) (c .before .before .before .before .before .before .loop .inv .reads) _ (sym (c .before .before .head .given .1) ∙ c .before .before .before .before .member-head-at .ensures), testing-inside (c .before .before .before .before .before .before .loop .inv) (c .before .before .before .before .before .loop-test .taken) _ (sym (c .before .before .head .given .1) ∙ c .before .before .before .before .member-head-at .ensures))))
+members-test-inline-type-test-requires t c κs = (omega (arith, c .before .before .before .before .before .before .before .before .pre .0), (c .before .before .before .before .before .before .before .before .pre .1 .0, (member-type-reads _ _ _ _ _ (c .before .before .before .before .before .loop-test .taken) (c .before .before .before .before .before .before .loop .inv .reads) _ (sym (c .before .before .head .given .1) ∙ c .before .before .before .before .member-head-at .ensures), testing-inside (c .before .before .before .before .before .before .loop .inv) (c .before .before .before .before .before .loop-test .taken) _ (sym (c .before .before .head .given .1) ∙ c .before .before .before .before .member-head-at .ensures))))
 
 members-test-enum-known-tested : Ask-members-test members-test-lts.Need-enum-known-tested
 members-test-enum-known-tested t c = search needs

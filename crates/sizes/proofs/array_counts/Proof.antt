@@ -1,5 +1,4 @@
 -- `sizes::array_counts` meets its contract. Assumes nothing.
-use borrow.Author.Needs.{needs}
 use Rattle.sizes.proofs.array_counts.Statement.{statement}
 use Rattle.sizes.proofs.array_counts.Tie as tie
 use native.Mathlib.Omega.{arith}

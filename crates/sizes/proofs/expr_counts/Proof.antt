@@ -1,5 +1,4 @@
 -- `sizes::expr_counts` meets its contract. Assumes nothing.
-use borrow.Author.Needs.{needs}
 use Rattle.sizes.proofs.expr_counts.Statement.{statement}
 use Rattle.sizes.proofs.expr_counts.Tie as tie
 use mathlib.Core.Bool.{not}
