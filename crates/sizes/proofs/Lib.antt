@@ -1,0 +1,9 @@
+pub mod ScanLaws
+pub mod Heads
+pub mod Parts
+pub mod Flat
+pub mod NamesLaws
+pub mod PathLaws
+pub mod PrimitiveLaws
+pub mod ReferenceLaws
+pub mod TestLaws
