@@ -23,7 +23,7 @@ unfolding onBundle dueOf
 accepted-due f b o c = rw (bundle-read-back b o, c)
 
 -- bytes that are read as a tree that does not circle are accepted
-accepted-of : (s : List ℕ) → Bytes s → (b : Bundle) (n : ℕ) → readBundle s ≡ ok b n → circles b ≡ false → Accepted s
+pub accepted-of : (s : List ℕ) → Bytes s → (b : Bundle) (n : ℕ) → readBundle s ≡ ok b n → circles b ≡ false → Accepted s
 accepted-of s bytes b n e c = record { tree = b; within = bundle-within s bytes b n e; straight = c; encoded = bundle-law s bytes b n e }
 
 pub accepted-iff : (s : List ℕ) → Bytes s → (acceptance s ≡ result []) ↔ Accepted s
