@@ -1,10 +1,9 @@
 -- Demand 1 holds of every call to which `onBundle` is due, whatever its result.
-use Prim.Native.Nat.{ℕ, _≤_, _<_}
-use native.Mathlib.Omega.{arith}
+use Prim.Native.Nat.{ℕ, _≤_}
 use mathlib.Core.Bool.{Bool, true, false, cond}
-use mathlib.Core.Path.{_≡_, refl, sym, ap, subst, _∙_}
+use mathlib.Core.Path.{_≡_, refl, subst, _∙_}
 use mathlib.Core.List.{List, []}
-use lib.ListN.{length, take, drop}
+use lib.ListN.{length}
 use Rattle.meaning.specs.Tree.{Bundle}
 use Rattle.meaning.specs.Encoding.{Bytes, bundleBytes}
 use Rattle.meaning.specs.Reader.{Read, ok, refused}
@@ -14,11 +13,30 @@ use Rattle.meaning.specs.Violations.{findLayoutDependencyChain}
 use Rattle.meaning.specs.Report.{report}
 use Rattle.meaning.specs.Kinds.{body}
 use Rattle.names.specs.Records.{renumberBytes}
-use Rattle.meaning.specs.Calls.{Answer, accepted, refusedWith, Outcome, result, refusal, answerOf, placesAfter, Call, dueOf, onBundle, acceptance, Accepted}
+use Rattle.meaning.specs.Calls.{Answer, accepted, refusedWith, Outcome, result, refusal, answerOf, Call, dueOf, onBundle, acceptance, Accepted}
 use Rattle.meaning.specs.Due.{reporting, renumbering, chainNames, chaining}
 use Rattle.meaning.proofs.Acceptance.{accepted-due, accepted-of}
-use Rattle.meaning.proofs.CallLaws.{Fills, call-accepted, call-refused, answer-fits, answer-narrow}
+use Rattle.meaning.proofs.CallLaws.{call-accepted, call-refused, answer-fits, answer-narrow}
 use Rattle.demands.specs.Demands.{Given, Refused, numberOf, Demand1}
+
+call-with : (o o′ : Outcome) (before after : List ℕ) (a : Answer) → o ≡ o′ → Call o before after a → Call o′ before after a
+call-with o o′ before after a e c = subst (λ o. Call o before after a) e c
+
+given-call : (xs before after : List ℕ) (a : Answer) → Call (result xs) before after a → length xs ≤ length before → Given xs before after a
+given-call xs before after a c h =
+    let e : a ≡ accepted (length xs) = c .answer ∙ answer-fits xs (length before) h in
+    let filled = call-accepted (result xs) (length xs) before after (subst (λ a. Call (result xs) before after a) e c) in
+    let same : filled .due ≡ xs = let p = filled .outcome in cc in
+    record { answer = e; first = filled .first ∙ same; others = filled .others }
+
+refused-call : (o : Outcome) (k : ℕ) (before after : List ℕ) (a : Answer) → Call o before after a → answerOf o (length before) ≡ refusedWith k → Refused k before after a
+refused-call o k before after a c e =
+    let q : a ≡ refusedWith k = c .answer ∙ e in
+    record { answer = q; all = call-refused o k before after (subst (λ a. Call o before after a) q c) }
+
+refusal-answer : (k lent : ℕ) → answerOf (refusal k) lent ≡ refusedWith k
+unfolding answerOf
+refusal-answer k lent = refl
 
 module _ (f : Bundle → List ℕ) where
   -- what is due to the call
@@ -41,25 +59,6 @@ module _ (f : Bundle → List ℕ) where
       go : (x : Read Bundle) → readBundle s ≡ x → dueOf (λ b. result (f b)) x ≡ refusal (numberOf x)
       go (ok b n) r = circle b n r (circles b) refl
       go (refused k) r = refl
-
-  call-with : (o o′ : Outcome) (before after : List ℕ) (a : Answer) → o ≡ o′ → Call o before after a → Call o′ before after a
-  call-with o o′ before after a e c = subst (λ o. Call o before after a) e c
-
-  given-call : (xs before after : List ℕ) (a : Answer) → Call (result xs) before after a → length xs ≤ length before → Given xs before after a
-  given-call xs before after a c h =
-      let e : a ≡ accepted (length xs) = c .answer ∙ answer-fits xs (length before) h in
-      let filled = call-accepted (result xs) (length xs) before after (subst (λ a. Call (result xs) before after a) e c) in
-      let same : filled .due ≡ xs = let p = filled .outcome in cc in
-      record { answer = e; first = filled .first ∙ same; others = filled .others }
-
-  refused-call : (o : Outcome) (k : ℕ) (before after : List ℕ) (a : Answer) → Call o before after a → answerOf o (length before) ≡ refusedWith k → Refused k before after a
-  refused-call o k before after a c e =
-      let q : a ≡ refusedWith k = c .answer ∙ e in
-      record { answer = q; all = call-refused o k before after (subst (λ a. Call o before after a) q c) }
-
-  refusal-answer : (k lent : ℕ) → answerOf (refusal k) lent ≡ refusedWith k
-  unfolding answerOf
-  refusal-answer k lent = refl
 
   pub demand-1 : Demand1 due f
   demand-1 = record {

@@ -6,7 +6,7 @@ use mathlib.Core.Option.{some}
 use Rattle.meaning.specs.Tree.{Bundle}
 use Rattle.meaning.specs.Violations.{graph, findLayoutDependencyChain}
 use Rattle.meaning.specs.Report.{report}
-use Rattle.meaning.specs.Calls.{result, Accepted}
+use Rattle.meaning.specs.Calls.{result}
 use Rattle.meaning.specs.Due.{reporting}
 use Rattle.meaning.proofs.Acceptance.{accepted-due}
 use Rattle.meaning.proofs.ChainLaws.{chain-none, chain-some, first-shortest, first-earliest}

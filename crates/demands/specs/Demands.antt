@@ -1,20 +1,24 @@
 -- The three demands on the calls. `Call o before after a` is what each call's contract says (the meaning's Calls.antt): o is due to
 -- it, it answers a, and the places that it was lent change from `before` to `after`. Bytes are numbers below 256.
 use Prim.Native.Nat.{ℕ, _≤_, _<_}
-use mathlib.Core.List.{List, [], _∷_, map}
+use mathlib.Core.List.{List}
 use mathlib.Core.Logic.{_↔_, _⊎_}
 use mathlib.Core.Option.{none, some}
 use mathlib.Core.Path.{_≡_}
 use lib.ListN.{length, take, drop}
+use Rattle.names.specs.Names.{numbering, Alike}
+use Rattle.names.specs.Documents.{Item, bytes, names, mapNames}
+use Rattle.names.specs.Records.{items, mapBytes}
+use Rattle.meaning.specs.Kinds.{body}
 use Rattle.meaning.specs.Tree.{Bundle}
 use Rattle.meaning.specs.Encoding.{Bytes}
 use Rattle.meaning.specs.Reader.{Read, ok, refused}
 use Rattle.meaning.specs.ReadBundle.{readBundle}
 use Rattle.meaning.specs.Chain.{IsWalk, Reaches, Earlier, namesOn}
 use Rattle.meaning.specs.Violations.{graph, findLayoutDependencyChain, violations}
-use Rattle.meaning.specs.Report.{reportBytes}
+use Rattle.meaning.specs.Report.{reportItems, reportBytes}
 use Rattle.meaning.specs.Calls.{Answer, accepted, refusedWith, Outcome, result, Call, Accepted}
-use Rattle.meaning.specs.Due.{reporting}
+use Rattle.meaning.specs.Due.{reporting, renumbering}
 
 -- Demand 1.
 
@@ -61,3 +65,30 @@ pub record Demand2 : Type 0 where
   pub report : (s : List ℕ) (b : Accepted s) → reporting s ≡ result (reportBytes (violations (b .tree)))
   pub no-chain : (b : Bundle) (from to : ℕ) → (findLayoutDependencyChain b from to ≡ none) ↔ (Reaches (graph b) from to → ⊥)
   pub chain : (b : Bundle) (from to : ℕ) (names : List ℕ) → findLayoutDependencyChain b from to ≡ some names → First b from to names
+
+-- Demand 3.
+
+-- a call to which o is due was accepted, whatever its places held before, and gave xs: its length, and the first places
+pub record Gave (o : Outcome) (xs : List ℕ) : Type 0 where
+  pub before : List ℕ
+  pub after : List ℕ
+  pub call : Call o before after (accepted (length xs))
+  pub first : take (length xs) after ≡ xs
+
+-- the numbering of a bundle's bytes: the map from old names to new, 0 to 0 included
+abbrev pub numberingOf : List ℕ → ℕ → ℕ
+numberingOf s = numbering (names (items body s))
+
+-- the report of an accepted bundle, as bytes and names
+abbrev pub reportOf : {s : List ℕ} → Accepted s → List Item
+reportOf b = reportItems (violations (b .tree))
+
+-- For all accepted bundles: two renumbered ones are equal, length and bytes, exactly when the bundles are alike, that is when some
+-- exchange of all names that sends 0 to 0 turns the one's bytes into the other's. The renumbered bundle is accepted too. Its report
+-- is the original's report with each name put through the numbering, and all else as it was.
+pub record Demand3 : Type 0 where
+  pub alike : {s t u v : List ℕ} → Bytes s → Bytes t → Accepted s → Accepted t → Gave (renumbering s) u → Gave (renumbering t) v
+      → (u ≡ v) ↔ Alike (mapBytes body) s t
+  pub accepted-too : {s u : List ℕ} → Bytes s → Accepted s → Gave (renumbering s) u → Accepted u
+  pub original : {s r : List ℕ} (b : Accepted s) → Gave (reporting s) r → r ≡ bytes (reportOf b)
+  pub report : {s u r : List ℕ} → Bytes s → (b : Accepted s) → Gave (renumbering s) u → Gave (reporting u) r → r ≡ bytes (mapNames (numberingOf s) (reportOf b))

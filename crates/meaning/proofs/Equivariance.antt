@@ -15,9 +15,10 @@ use lib.Dec.{ltb}
 use lib.ListN.{length, length-map, replicate}
 use borrow.Author.Tests.{ltb-true, ltb-false, lt-ltb}
 use Rattle.names.specs.Names.{numbering, nameCount, Names, Exchange}
-use Rattle.names.specs.Documents.{Item, byte, name, mapNames}
+use Rattle.names.specs.Documents.{byte, name, mapNames}
 use Rattle.names.proofs.Exchanged.{name-of, map-same}
 use Rattle.names.proofs.Swap.{to-injective, swap, swap-left, swap-other, swap-swap}
+use Rattle.names.proofs.Items.{mapNames-append}
 use Rattle.names.proofs.Laws.{Extension, extension}
 use Rattle.meaning.proofs.Pigeonhole.{Absent}
 use Rattle.meaning.specs.Tree.{Bundle}
@@ -159,11 +160,6 @@ module _ (b : Bundle) (ok : Names (bundleNames b)) where
 -- 4. The report.
 
 module _ (f : ℕ → ℕ) where
-  mapNames-append : (xs ys : List Item) → mapNames f (xs ++ ys) ≡ mapNames f xs ++ mapNames f ys
-  mapNames-append [] ys = refl
-  mapNames-append (byte x ∷ xs) ys = ap (byte x ∷_) (mapNames-append xs ys)
-  mapNames-append (name n ∷ xs) ys = ap (name (f n) ∷_) (mapNames-append xs ys)
-
   mapNames-names : (ns : List ℕ) → mapNames f (map name ns) ≡ map name (map f ns)
   mapNames-names [] = refl
   mapNames-names (n ∷ ns) = ap (name (f n) ∷_) (mapNames-names ns)
@@ -176,7 +172,7 @@ module _ (f : ℕ → ℕ) where
   path-map path =
       ap (λ k. byte k ∷ map name (map f path) ++ replicate (2 * (4 - k)) (byte 0)) (length-map path f)
       ∙ ap (byte (length path) ∷_) (ap₂ _++_ (sym (mapNames-names path)) (sym (mapNames-zeros (2 * (4 - length path))))
-      ∙ sym (mapNames-append (map name path) (replicate (2 * (4 - length path)) (byte 0))))
+      ∙ sym (mapNames-append f (map name path) (replicate (2 * (4 - length path)) (byte 0))))
 
   links-map : (chain : List ℕ) → flatMap (λ n. byte 0x7F ∷ name n ∷ []) (map f chain) ≡ mapNames f (flatMap (λ n. byte 0x7F ∷ name n ∷ []) chain)
   links-map [] = refl
@@ -188,11 +184,11 @@ module _ (f : ℕ → ℕ) where
   violation-map : (v : Violation) → violationItems (mapViolation f v) ≡ mapNames f (violationItems v)
   violation-map v =
       ap (λ xs. byte (0x70 + v .type) ∷ twoBytes (v .definition) ++ name (f (v .name)) ∷ xs)
-      (ap₂ _++_ (path-map (v .path)) (chain-map (v .chain)) ∙ sym (mapNames-append (pathItems (v .path)) (chainItems (v .chain))))
+      (ap₂ _++_ (path-map (v .path)) (chain-map (v .chain)) ∙ sym (mapNames-append f (pathItems (v .path)) (chainItems (v .chain))))
 
   reports-map : (vs : List Violation) → flatMap violationItems (map (mapViolation f) vs) ≡ mapNames f (flatMap violationItems vs)
   reports-map [] = refl
-  reports-map (v ∷ vs) = ap₂ _++_ (violation-map v) (reports-map vs) ∙ sym (mapNames-append (violationItems v) (flatMap violationItems vs))
+  reports-map (v ∷ vs) = ap₂ _++_ (violation-map v) (reports-map vs) ∙ sym (mapNames-append f (violationItems v) (flatMap violationItems vs))
 
   -- a report of renamed violations is the report with its names put through f
   pub reportItems-map : (vs : List Violation) → reportItems (map (mapViolation f) vs) ≡ mapNames f (reportItems vs)

@@ -8,6 +8,7 @@ use lib.ListN.{length, getD}
 use lib.Dec.{lit<}
 use Rattle.names.specs.Documents.{Item, byte, name, bytes, layout}
 use Rattle.names.specs.Records.{itemsIn, WholeIn, items, Whole}
+use Rattle.names.proofs.Items.{bytes-append}
 use Rattle.meaning.specs.Kinds.{kinds, lookup, formParts, parts, body, widths}
 use Rattle.meaning.specs.Lists.{flatMap}
 use Rattle.meaning.specs.Tree.{Expr, literal, fieldRef, sizeof, alignof, binary, unary, Attributes}
@@ -15,7 +16,6 @@ use Rattle.meaning.specs.Tree.{Ty, primitive, typeRef, struct, union, en
 use Rattle.meaning.specs.Encoding.{numberItems, exprItems, memberCount, headItems, typeItems, memberItems, membersItems, definitionItems, edgeItems, bundleItems, bundleBytes}
 use Rattle.meaning.specs.Within.{Each, ExprOk, TyOk, MemberOk, MembersOk, DefinitionOk, EdgeOk, BundleOk}
 use Rattle.meaning.proofs.KindTable.{hit}
-use Rattle.meaning.proofs.Written.{bytes-append}
 
 -- a scan over the bytes of the items d finds them, and goes on behind them
 pub record Scans (d : List Item) : Type 0 where

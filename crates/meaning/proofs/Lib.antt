@@ -34,3 +34,5 @@ pub mod Counts
 pub mod Chains
 pub mod Injective
 pub mod Equivariance
+pub mod MappedWithin
+pub mod RenumberingLaws

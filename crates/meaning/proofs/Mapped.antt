@@ -6,6 +6,7 @@ use mathlib.Core.List.{List, [], _∷_, _++_, map}
 use lib.ListN.{length, getD, length-map}
 use Rattle.names.specs.Documents.{Item, byte, name, bytes, names, mapNames}
 use Rattle.names.specs.Records.{items, mapBytes}
+use Rattle.names.proofs.Items.{names-append, mapNames-append}
 use Rattle.meaning.specs.Kinds.{body, widths}
 use Rattle.meaning.specs.Lists.{flatMap}
 use Rattle.meaning.specs.Tree.{Expr, literal, fieldRef, sizeof, alignof, binary, unary, Attributes}
@@ -16,11 +17,6 @@ use Rattle.meaning.specs.Within.{BundleOk}
 use Rattle.meaning.proofs.Flat.{bundle-items}
 
 -- The names of the items.
-
-names-append : (d e : List Item) → names (d ++ e) ≡ names d ++ names e
-names-append [] e = refl
-names-append (byte b ∷ d) e = names-append d e
-names-append (name n ∷ d) e = ap (n ∷_) (names-append d e)
 
 -- of two lists, one after the other
 both-names : (d e : List Item) {x y : List ℕ} → names d ≡ x → names e ≡ y → names (d ++ e) ≡ x ++ y
@@ -88,13 +84,8 @@ bundle-names b =
 
 -- Every name put through f.
 module _ (f : ℕ → ℕ) where
-  map-append : (d e : List Item) → mapNames f (d ++ e) ≡ mapNames f d ++ mapNames f e
-  map-append [] e = refl
-  map-append (byte b ∷ d) e = ap (byte b ∷_) (map-append d e)
-  map-append (name n ∷ d) e = ap (name (f n) ∷_) (map-append d e)
-
   both-mapped : (d e : List Item) {x y : List Item} → x ≡ mapNames f d → y ≡ mapNames f e → x ++ y ≡ mapNames f (d ++ e)
-  both-mapped d e p q = ap₂ _++_ p q ∙ sym (map-append d e)
+  both-mapped d e p q = ap₂ _++_ p q ∙ sym (mapNames-append f d e)
 
   each-mapped : {A : Type 0} (one : A → List Item) (g : A → A) → ((a : A) → one (g a) ≡ mapNames f (one a)) → (l : List A) → flatMap one (map g l) ≡ mapNames f (flatMap one l)
   each-mapped one g law [] = refl
@@ -118,7 +109,7 @@ module _ (f : ℕ → ℕ) where
   expr-mapped (binary k l r) = both-mapped (byte k ∷ exprItems l) (exprItems r) (ap (byte k ∷_) (expr-mapped l)) (expr-mapped r)
   expr-mapped (unary k e) = ap (byte k ∷_) (expr-mapped e)
 
-  count-mapped : (ms : Members) → memberCount (mapMembers f ms) ≡ memberCount ms
+  pub count-mapped : (ms : Members) → memberCount (mapMembers f ms) ≡ memberCount ms
   unfolding memberCount
   count-mapped none = refl
   count-mapped (more m ms) = ap suc (count-mapped ms)

@@ -32,7 +32,7 @@ unfolding writing
 due-record k fs vs e n = rw (e, n)
 
 -- a first value that fits
-fits : (f : Field) (fs : List Field) (v : ℕ) (vs : List ℕ) → v ≤ most f → firstFault (f ∷ fs) (v ∷ vs) ≡ firstFault fs vs
+pub fits : (f : Field) (fs : List Field) (v : ℕ) (vs : List ℕ) → v ≤ most f → firstFault (f ∷ fs) (v ∷ vs) ≡ firstFault fs vs
 unfolding firstFault
 fits f fs v vs h = rw (le-leb v (most f) h)
 

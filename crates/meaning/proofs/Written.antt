@@ -6,6 +6,7 @@ use mathlib.Core.Path.{_≡_, refl, sym, ap, ap₂, _∙_}
 use mathlib.Core.List.{List, [], _∷_, _++_, append-assoc, map}
 use lib.ListN.{length, getD}
 use Rattle.names.specs.Documents.{Item, byte, name, bytes}
+use Rattle.names.proofs.Items.{bytes-append}
 use Rattle.meaning.specs.Kinds.{widths}
 use Rattle.meaning.specs.Lists.{flatMap}
 use Rattle.meaning.specs.Tree.{Expr, literal, fieldRef, sizeof, alignof, binary, unary}
@@ -85,11 +86,6 @@ writtenBytes b =
     ++ eachBytes definitionBytes (b .definitions) ++ eachBytes edgeBytes (b .edges)
 
 -- The bytes of the items.
-
-pub bytes-append : (d e : List Item) → bytes (d ++ e) ≡ bytes d ++ bytes e
-bytes-append [] e = refl
-bytes-append (byte b ∷ d) e = ap (b ∷_) (bytes-append d e)
-bytes-append (name n ∷ d) e = ap (λ l. n % 256 ∷ n / 256 ∷ l) (bytes-append d e)
 
 -- two lists of items, one after the other
 pub both-written : (d e : List Item) {x y : List ℕ} → bytes d ≡ x → bytes e ≡ y → bytes (d ++ e) ≡ x ++ y

@@ -1,0 +1,24 @@
+-- `writer::head_shape` meets its contract. Assumes nothing.
+use borrow.Author.Needs.{needs}
+use Rattle.writer.proofs.head_shape.Statement.{statement}
+use Rattle.writer.proofs.head_shape.Tie as tie
+
+number-part-requires : tie.Need-number-part-requires
+number-part-requires c κs = search needs
+
+whole-part-requires : tie.Need-whole-part-requires
+whole-part-requires c κs = search needs
+
+no-part-requires : tie.Need-no-part-requires
+no-part-requires c κs = search needs
+
+body-requires : tie.Need-body-requires
+body-requires c κs = search needs
+
+returns : tie.Need-returns
+returns c = cc
+
+pub head-shape-spec : {M : Type 1} → statement M
+head-shape-spec =
+    tie.close
+    (tie.spec number-part-requires whole-part-requires no-part-requires body-requires returns)

@@ -1,0 +1,72 @@
+-- `writer::record_shape` meets its contract. Assumes nothing.
+use borrow.Author.Needs.{needs}
+use Rattle.writer.proofs.record_shape.Statement.{statement}
+use Rattle.writer.proofs.record_shape.Tie as tie
+use mathlib.Core.Path.{_≡_}
+use native.Mathlib.Omega.{arith}
+use Rattle.writer.specs.Shapes.{shapedOf, shapeOf}
+use Rattle.writer.proofs.ShapeLaws.{edge-fields}
+
+no-part-requires : tie.Need-no-part-requires
+no-part-requires c κs = search needs
+
+number-part-requires : tie.Need-number-part-requires
+number-part-requires c κs = search needs
+
+number-part-requires-2 : tie.Need-number-part-requires-2
+number-part-requires-2 c κs = search needs
+
+name-part-requires : tie.Need-name-part-requires
+name-part-requires c κs = search needs
+
+body-requires : tie.Need-body-requires
+body-requires c κs = search needs
+
+name-part-requires-2 : tie.Need-name-part-requires-2
+name-part-requires-2 c κs = search needs
+
+body-requires-2 : tie.Need-body-requires-2
+body-requires-2 c κs = search needs
+
+name-part-requires-3 : tie.Need-name-part-requires-3
+name-part-requires-3 c κs = search needs
+
+name-part-requires-4 : tie.Need-name-part-requires-4
+name-part-requires-4 c κs = search needs
+
+number-part-requires-3 : tie.Need-number-part-requires-3
+number-part-requires-3 c κs = search needs
+
+body-requires-3 : tie.Need-body-requires-3
+body-requires-3 c κs = search needs
+
+returns : tie.Need-returns
+unfolding shapedOf shapeOf
+returns c = let e : c .before .before .before .before .before .before .args .kind ≡ 0x60 = omega arith in rw e cc
+
+returns-2 : tie.Need-returns-2
+unfolding shapedOf shapeOf
+returns-2 c = let e : c .before .before .before .before .args .kind ≡ 0x61 = omega arith in rw e cc
+
+returns-3 : tie.Need-returns-3
+unfolding shapedOf shapeOf
+returns-3 c = rw (edge-fields (c .before .before .before .before .before .before .args .kind) (λ p. omega arith) (λ p. omega arith)) cc
+
+pub record-shape-spec : {M : Type 1} → statement M
+record-shape-spec =
+    tie.close
+    (tie.spec
+    no-part-requires
+    number-part-requires
+    number-part-requires-2
+    name-part-requires
+    body-requires
+    name-part-requires-2
+    body-requires-2
+    name-part-requires-3
+    name-part-requires-4
+    number-part-requires-3
+    body-requires-3
+    returns
+    returns-2
+    returns-3)
