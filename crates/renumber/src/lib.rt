@@ -14,10 +14,10 @@ ghost use Rattle.names.specs.Tables.{TableOf};
 ghost use Rattle.meaning.specs.Kinds.{body, formParts};
 ghost use Rattle.meaning.specs.Limits.{sizeLimit};
 ghost use Rattle.meaning.specs.Calls.{Call};
+ghost use Rattle.meaning.specs.Due.{renumbering};
 ghost use Rattle.bundle.specs.View.{formMeant};
 ghost use Rattle.bundle.specs.Opened.{answerMeant};
 ghost use Rattle.renumber.specs.Scan.{due, nameFirst, behind, Put};
-ghost use Rattle.meaning.specs.Due.{renumbering};
 
 // The parts of a record's body that are still to come: bytes, then names, then bytes.
 struct Parts(u8, u8, u8);

@@ -1,5 +1,6 @@
 -- `chain::find_chain` meets its contract: what the bytes are refused for, or what was found for the bundle that they are.
 use Rattle.bundle.proofs.AnswerLaws.{opened-layout, opened-refused}
+use Rattle.meaning.specs.Due.{chaining}
 use Rattle.chain.proofs.Called.{called, turned-down}
 use native.Mathlib.Omega.{arith}
 use borrow.Author.Needs.{needs}
@@ -31,6 +32,7 @@ returns c = let o = opened-layout _ _ _ _ (c .before .before .before .before .be
     called _ _ (o .0) (o .1) (f .ensures) _ (f .kept .1 .1 .1 .1 .1 .0) (c .answer-for .ensures)
 
 returns-2 : tie.Need-returns-2
+unfolding chaining
 returns-2 c = turned-down _ (opened-refused _ _ _ _ (c .before .before .before .«open» .ensures) (c .before .opening2 .given .1) _)
 
 pub find-chain-spec : {M : Type 1} → statement M

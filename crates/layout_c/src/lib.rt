@@ -1,0 +1,62 @@
+// The calls for C and Rust. A call answers 0 where it is accepted, and else the number of the refusal. The length of a result goes
+// to `written`, which a refusal leaves as it was.
+use bundle::Answer;
+ghost use mathlib.Core.Path.{_≡_};
+ghost use Rattle.meaning.specs.Calls.{answerOf, acceptance};
+ghost use Rattle.meaning.specs.Due.{renumbering, chaining};
+ghost use Rattle.bundle.specs.Opened.{answerMeant};
+ghost use Rattle.layout_c.specs.Convention.{codeOf, writtenAfter, CallInC};
+
+// The number for an answer.
+fn code(answer: Answer) -> u8
+    ensures { λ r. ⌜ r ≡ codeOf (answerMeant answer) ⌝ }
+{
+    match answer {
+        Answer::Accepted(_) => 0,
+        Answer::Refused(k) => k,
+    }
+}
+
+// The length that goes out for an answer, where `written` stood.
+fn length_out(answer: Answer, written: usize) -> usize
+    ensures { λ r. ⌜ r ≡ writtenAfter (answerMeant answer) written ⌝ }
+{
+    match answer {
+        Answer::Accepted(n) => n,
+        Answer::Refused(_) => written,
+    }
+}
+
+// Whether the bytes are accepted.
+#[no_mangle]
+pub extern "C" fn layout_accept(bundle: &[u8]) -> u8
+    ensures { λ r. ⌜ r ≡ codeOf (answerOf (acceptance (now (bundle .entry))) 0) ⌝ }
+{
+    code(bundle::accept(bundle))
+}
+
+// The bundle with its names renumbered, into the first places of `out`.
+#[no_mangle]
+pub extern "C" fn layout_renumber(bundle: &[u8], out: &mut [u8], written: &mut usize) -> u8
+    ensures { λ r. ⌜ CallInC (renumbering (now (bundle .entry))) (now (out .entry)) (now (out .exit)) (now (written .entry)) (now (written .exit)) r ⌝ }
+{
+    let answer = renumber::renumber(bundle, out);
+    *written = length_out(answer, *written);
+    code(answer)
+}
+
+// The chain from one name to another, into the first places of `list`.
+#[no_mangle]
+pub extern "C" fn layout_chain(
+    bundle: &[u8],
+    from: u16,
+    to: u16,
+    list: &mut [u16],
+    written: &mut usize,
+) -> u8
+    ensures { λ r. ⌜ CallInC (chaining from to (now (bundle .entry))) (now (list .entry)) (now (list .exit)) (now (written .entry)) (now (written .exit)) r ⌝ }
+{
+    let answer = chain::find_chain(bundle, from, to, list);
+    *written = length_out(answer, *written);
+    code(answer)
+}
