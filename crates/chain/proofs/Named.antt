@@ -13,11 +13,11 @@ use native.Mathlib.Decide.{decLt}
 use borrow.Author.Tests.{eq-eqb, ne-eqb, lt-ltb, le-ltb}
 use lib.Dec.{eqb, ltb}
 use lib.ListN.{length, getD}
-use Rattle.meaning.specs.Chain.{Graph, IsWalk, nameAt, chainOf}
+use Rattle.meaning.specs.Chain.{Graph, IsWalk, chainOf}
 use Rattle.meaning.proofs.ChainLaws.{firstWalk-no}
 use Rattle.meaning.proofs.Chains.{Renamed, chainOf-map}
 use Rattle.meaning.proofs.Walks.{order}
-use Rattle.chain.specs.Edges.{graphAt}
+use Rattle.chain.specs.Edges.{graphAt, nameAt}
 use Rattle.chain.specs.Index.{Named, Numbering, numbered, Indexed, HasEnds, EndsBelow, Prepared}
 use Rattle.chain.specs.Queue.{Holds, chainBy, chainTo, namesOf, Hit}
 use Rattle.chain.proofs.Entries.{name-of}

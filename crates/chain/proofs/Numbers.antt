@@ -12,9 +12,8 @@ use native.Mathlib.Numerals.{add-one}
 use borrow.Author.Tests.{eq-eqb, ne-eqb}
 use lib.ListN.{length, getD, set}
 use lib.Seq.{getD-set-same, getD-set-other}
-use Rattle.meaning.specs.Chain.{nameAt}
 use Rattle.meaning.specs.Reader.{little}
-use Rattle.chain.specs.Edges.{endAt}
+use Rattle.chain.specs.Edges.{endAt, nameAt}
 use Rattle.chain.specs.Members.{Entered, grown}
 use Rattle.chain.specs.Index.{Named, Numbering}
 use Rattle.chain.proofs.Put.{below-one-more}

@@ -1,8 +1,12 @@
 -- The edges that stand in a bundle's bytes.
 use Prim.Native.Nat.{ℕ, _+_, _*_, _/_, _%_, _≤_}
 use mathlib.Core.List.{List}
-use lib.ListN.{length}
-use Rattle.meaning.specs.Chain.{Graph, nameAt}
+use lib.ListN.{length, getD}
+use Rattle.meaning.specs.Chain.{Graph}
+
+-- the name at place i, low byte first
+abbrev pub nameAt : List ℕ → ℕ → ℕ
+nameAt bytes i = getD bytes i 0 + 256 * getD bytes (i + 1) 0
 
 -- count edge records of 6 bytes from place `at` on: 62 hexadecimal, from in two bytes, to in two bytes, kind
 abbrev pub graphAt : List ℕ → ℕ → ℕ → Graph

@@ -20,7 +20,6 @@ pub mod Order
 pub mod Walks
 pub mod Pigeonhole
 pub mod ChainLaws
-pub mod ChainExamples
 pub mod Examples
 pub mod RenumberingExamples
 pub mod Lists

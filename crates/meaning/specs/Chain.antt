@@ -1,26 +1,18 @@
 -- What the chain from one name to another over numbered edges is.
-use Prim.Native.Nat.{ℕ, zero, suc, _+_, _*_, _<_}
+use Prim.Native.Nat.{ℕ, zero, suc, _<_}
 use mathlib.Core.Path.{_≡_}
 use mathlib.Core.Logic.{_⊎_}
 use mathlib.Core.Bool.{Bool, true, false}
-use mathlib.Core.List.{List, [], _∷_, _++_, map}
+use mathlib.Core.List.{List, [], _∷_, map}
 use mathlib.Core.Option.{Option, none, some, Option·map, orElse}
-use lib.Dec.{eqb, leb}
-use lib.ListN.{length, getD, drop}
+use lib.Dec.{eqb}
+use lib.ListN.{length}
 
 -- numbered edges: edge e, for e below count, leads from the name `from e` to the name `to e`
 pub record Graph : Type 0 where
   pub count : ℕ
   pub from : ℕ → ℕ
   pub to : ℕ → ℕ
-
--- the 16-bit number, low byte first, at place i
-abbrev pub nameAt : List ℕ → ℕ → ℕ
-nameAt bytes i = getD bytes i 0 + 256 * getD bytes (i + 1) 0
-
--- the first n edge records of 6 bytes: 62 hexadecimal, from in two bytes, to in two bytes, kind
-abbrev pub graphOf : List ℕ → ℕ → Graph
-graphOf bytes n = record { count = n; from = λ e. nameAt bytes (6 * e + 1); to = λ e. nameAt bytes (6 * e + 3) }
 
 -- the edges es lead, each from where the one before it ended, from a to b
 abbrev pub IsWalk : Graph → ℕ → List ℕ → ℕ → Type 0
