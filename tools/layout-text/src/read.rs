@@ -42,7 +42,7 @@ pub fn read(bytes: &[u8]) -> Read<Bundle> {
     let bundle = reader.bundle()?;
     let left = bytes.len() - reader.at;
     if left > 0 {
-        let detail = format!("the last record ends here, and {left} more follow");
+        let detail = format!("the last record ends here, {left} before the end of the bytes");
         return reader.fault(Refusal::Trailing, detail);
     }
     Ok(bundle)
