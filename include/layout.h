@@ -2,9 +2,7 @@
  *
  * A bundle is a set of frame definitions as bytes, 32,768 at most. Each call
  * below reads a bundle, refuses one that is damaged, and answers about one that
- * is sound. No call keeps anything between calls, allocates or prints; calls
- * from several threads at once are safe as long as they lend different output
- * buffers.
+ * is sound. An answer depends on the call's arguments alone, not on earlier calls.
  *
  * What a call returns: 0 if the bundle was accepted, otherwise the number of the
  * refusal (see below).
@@ -54,8 +52,8 @@ uint8_t layout_accept(const uint8_t *bundle, size_t bundle_len);
 
 /* Writes the report: 70, the number of violations, then the violations. A set
  * passes if that number is 0; the report then has three bytes. Refusals 1 to 9.
- * A violation is a record of 18 bytes or more, so a buffer of 65,536 bytes
- * is enough for all but large sets with very many violations. */
+ * A violation takes 16 bytes and 3 for each name of its chain. A buffer of 65,536
+ * bytes is enough for all but sets with very many violations or long chains. */
 uint8_t layout_report(const uint8_t *bundle, size_t bundle_len, uint8_t *out,
                       size_t out_len, size_t *written);
 

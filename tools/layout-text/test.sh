@@ -19,3 +19,4 @@ for test in notation random; do
     $linked -o "$target/$test" "tools/layout-text/tests/$test.rs"
   "$target/$test" --quiet --test-threads 1
 done
+tools/layout-text/tests/program.sh

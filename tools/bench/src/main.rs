@@ -17,7 +17,7 @@ const USUAL_BUFFER: usize = 65_536;
 /// Above this bound the original would not finish within minutes.
 const STEP_LIMIT: u64 = 1 << 35;
 /// With `--quick`, cases that take the original some seconds are left out too.
-const QUICK_STEP_LIMIT: u64 = 1 << 30;
+const QUICK_STEP_LIMIT: u64 = 4_000_000_000;
 
 const WORST: [(&str, Worst); 5] = [
     ("deep nesting", inputs::deep_nesting),

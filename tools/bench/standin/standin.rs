@@ -7,7 +7,7 @@ use layout_oracle::{reader, reference};
 
 /// # Safety
 /// A pointer that is not null must lead to `length` readable items.
-unsafe fn lent<'a, T>(start: *const T, length: usize) -> &'a [T] {
+unsafe fn input_slice<'a, T>(start: *const T, length: usize) -> &'a [T] {
     if length == 0 {
         return &[];
     }
@@ -15,8 +15,8 @@ unsafe fn lent<'a, T>(start: *const T, length: usize) -> &'a [T] {
 }
 
 /// # Safety
-/// As for `lent`, and nothing else may refer to the items.
-unsafe fn lent_output<'a, T>(start: *mut T, length: usize) -> &'a mut [T] {
+/// As for `input_slice`, and nothing else may refer to the items.
+unsafe fn output_slice<'a, T>(start: *mut T, length: usize) -> &'a mut [T] {
     if length == 0 {
         return &mut [];
     }
@@ -51,7 +51,7 @@ fn renumber(bundle: &Bundle) -> Vec<u8> {
 /// See include/layout.h.
 #[no_mangle]
 pub unsafe extern "C" fn layout_accept(bundle: *const u8, bundle_len: usize) -> u8 {
-    match reader::read(lent(bundle, bundle_len)) {
+    match reader::read(input_slice(bundle, bundle_len)) {
         Ok(_) => 0,
         Err(refusal) => refusal,
     }
@@ -67,8 +67,8 @@ pub unsafe extern "C" fn layout_report(
     out_len: usize,
     written: *mut usize,
 ) -> u8 {
-    let result = reader::read(lent(bundle, bundle_len)).map(|tree| report(&tree));
-    answer(result, lent_output(out, out_len), &mut *written)
+    let result = reader::read(input_slice(bundle, bundle_len)).map(|tree| report(&tree));
+    answer(result, output_slice(out, out_len), &mut *written)
 }
 
 /// # Safety
@@ -81,8 +81,8 @@ pub unsafe extern "C" fn layout_renumber(
     out_len: usize,
     written: *mut usize,
 ) -> u8 {
-    let result = reader::read(lent(bundle, bundle_len)).map(|tree| renumber(&tree));
-    answer(result, lent_output(out, out_len), &mut *written)
+    let result = reader::read(input_slice(bundle, bundle_len)).map(|tree| renumber(&tree));
+    answer(result, output_slice(out, out_len), &mut *written)
 }
 
 /// # Safety
@@ -97,7 +97,7 @@ pub unsafe extern "C" fn layout_chain(
     list_len: usize,
     written: *mut usize,
 ) -> u8 {
-    let result = reader::read(lent(bundle, bundle_len))
+    let result = reader::read(input_slice(bundle, bundle_len))
         .map(|tree| reference::chain(&tree, from, to).unwrap_or_default());
-    answer(result, lent_output(list, list_len), &mut *written)
+    answer(result, output_slice(list, list_len), &mut *written)
 }

@@ -2,7 +2,7 @@
 
 use layout::Refusal;
 use layout_text::encode::encode;
-use layout_text::explain::explain;
+use layout_text::explain::{explain, Source};
 use layout_text::names::Names;
 use layout_text::parse::{parse, Text};
 use layout_text::read::read;
@@ -140,6 +140,24 @@ fn names_from(path: Option<&str>) -> Result<Names, Failure> {
     }
 }
 
+fn source_of(text: Text) -> Source {
+    Source {
+        names: text.names,
+        lines: text.lines,
+    }
+}
+
+/// Names from a text, and its lines if it is the text of these bytes.
+fn source_from(path: Option<&str>, bytes: &[u8]) -> Result<Source, Failure> {
+    let text = parse_file(path, input(path)?)?;
+    let same = encode(&text.bundle).is_ok_and(|own| own == bytes);
+    let mut source = source_of(text);
+    if !same {
+        source.lines.clear();
+    }
+    Ok(source)
+}
+
 fn run_assemble(arguments: &Arguments) -> Result<u8, Failure> {
     let path = arguments.file.as_deref();
     let text = parse_file(path, input(path)?)?;
@@ -165,16 +183,16 @@ fn run_explain(arguments: &Arguments) -> Result<u8, Failure> {
     let path = arguments.file.as_deref();
     let given = input(path)?;
     let by_ending = path.is_some_and(|path| path.ends_with(".layout"));
-    let (bytes, own_names) = match arguments.text.unwrap_or(by_ending) {
+    let (bytes, own) = match arguments.text.unwrap_or(by_ending) {
         true => {
             let text = parse_file(path, given)?;
-            (encoded(path, &text)?, text.names)
+            (encoded(path, &text)?, source_of(text))
         }
-        false => (given, Names::default()),
+        false => (given, Source::default()),
     };
-    let names = match &arguments.names {
-        None => own_names,
-        given => names_from(given.as_deref())?,
+    let source = match arguments.names.as_deref() {
+        None => own,
+        given => source_from(given, &bytes)?,
     };
     let answer = match &arguments.report {
         None => answer_of(&bytes),
@@ -184,7 +202,7 @@ fn run_explain(arguments: &Arguments) -> Result<u8, Failure> {
     let report = report::read(&answer).map_err(failure)?;
     let words = match arguments.hex {
         true => hex(&answer),
-        false => explain(&bytes, &report, &names).map_err(failure)?,
+        false => explain(&bytes, &report, &source).map_err(failure)?,
     };
     output(None, words.as_bytes())?;
     Ok(match report {

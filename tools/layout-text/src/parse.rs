@@ -18,6 +18,8 @@ const NESTING_LIMIT: usize = 60;
 pub struct Text {
     pub bundle: Bundle,
     pub names: Names,
+    /// The line on which each definition starts.
+    pub lines: Vec<usize>,
 }
 
 pub fn parse(text: &str) -> Parsed<Text> {
@@ -33,11 +35,13 @@ pub fn parse(text: &str) -> Parsed<Text> {
         at: 0,
         nesting: 0,
         names,
+        lines: Vec::new(),
     };
     let bundle = parser.bundle()?;
     Ok(Text {
         bundle,
         names: parser.names,
+        lines: parser.lines,
     })
 }
 
@@ -46,6 +50,7 @@ struct Parser {
     at: usize,
     nesting: usize,
     names: Names,
+    lines: Vec<usize>,
 }
 
 impl Parser {
@@ -122,7 +127,9 @@ impl Parser {
         if self.take_word("current") {
             bundle.current = self.name()?;
         }
-        while self.take_word("define") {
+        while self.at_word("define") {
+            self.lines.push(self.place().line);
+            self.advance();
             let name = self.name()?;
             let body = self.type_node()?;
             bundle.definitions.push(Definition { name, body });

@@ -12,19 +12,19 @@ use std::fmt::Write;
 /// written by number. The `name` lines are left out where the words get their
 /// numbers without them.
 pub fn show(bundle: &Bundle, names: &Names) -> String {
-    let mut shower = Shower {
+    let mut writer = Writer {
         names,
         used: BTreeSet::new(),
         out: String::new(),
     };
-    shower.bundle(bundle);
-    let body = shower.out.trim_start_matches('\n').to_string();
+    writer.bundle(bundle);
+    let body = writer.out.trim_start_matches('\n').to_string();
     let same = parse(&body).is_ok_and(|text| encode(&text.bundle) == encode(bundle));
     if same {
         return body;
     }
     let mut table = String::new();
-    for name in shower.used.iter().filter(|name| names.has(**name)) {
+    for name in writer.used.iter().filter(|name| names.has(**name)) {
         push_line(&mut table, format!("name {} = {name}", names.word(*name)));
     }
     table + "\n" + &body
@@ -35,13 +35,13 @@ fn push_line(out: &mut String, line: String) {
     out.push('\n');
 }
 
-struct Shower<'a> {
+struct Writer<'a> {
     names: &'a Names,
     used: BTreeSet<Name>,
     out: String,
 }
 
-impl Shower<'_> {
+impl Writer<'_> {
     fn name(&mut self, name: Name) -> String {
         self.used.insert(name);
         self.names.word(name)

@@ -3,7 +3,7 @@
 use layout_oracle::random::Random;
 use layout_oracle::{bundle, damage, generate, reader};
 use layout_text::encode::encode;
-use layout_text::explain::explain;
+use layout_text::explain::{explain, Source};
 use layout_text::names::Names;
 use layout_text::parse::parse;
 use layout_text::read::read;
@@ -88,8 +88,11 @@ fn every_answer_of_the_library_can_be_explained() {
         let answer = layout::report_vec(&bytes);
         let answer = answer.unwrap_or_else(|refusal| vec![0x7E, refusal.number()]);
         let report = report::read(&answer).expect("a report");
-        let names = some_names(&mut random);
-        let words = explain(&bytes, &report, &names).unwrap_or_else(|error| panic!("{error}"));
+        let source = Source {
+            names: some_names(&mut random),
+            lines: Vec::new(),
+        };
+        let words = explain(&bytes, &report, &source).unwrap_or_else(|error| panic!("{error}"));
         assert!(!words.contains('?'), "{words}");
     }
 }
