@@ -16,8 +16,9 @@ pub use refusal::Refusal;
 pub const BYTE_LIMIT: usize = 32_768;
 /// No chain is longer: 1,024 edges join 1,025 names.
 pub const CHAIN_LIMIT: usize = 1_025;
-/// No report is longer: a bundle has room for fewer than 11,000 references, and
-/// each gives one violation at most, of 16 bytes and 3 for each name of its chain.
+/// No report is longer: a violation belongs to a reference, a field or an array of
+/// 3 bytes or more, so there are fewer than 11,000, and each has 16 bytes and 3 for
+/// each name of its chain.
 const REPORT_LIMIT: usize = 64 << 20;
 /// Where `report_vec` starts; enough for all but very long reports.
 const FIRST_REPORT_LENGTH: usize = 4_096;
