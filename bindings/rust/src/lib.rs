@@ -1,0 +1,149 @@
+//! Safe calls of the layout checks; `include/layout.h` says what each one does.
+//!
+//! ```no_run
+//! let bundle = std::fs::read("winch.bundle").unwrap();
+//! match layout::report_vec(&bundle) {
+//!     Ok(report) => println!("{} bytes of report", report.len()),
+//!     Err(refusal) => println!("refused: {refusal}"),
+//! }
+//! ```
+
+mod refusal;
+
+pub use refusal::Refusal;
+
+/// More bytes than a bundle may have are refused as overlong.
+pub const BYTE_LIMIT: usize = 32_768;
+/// No chain is longer: 1,024 edges join 1,025 names.
+pub const CHAIN_LIMIT: usize = 1_025;
+/// No report is longer: a violation belongs to a reference, a field or an array of
+/// 3 bytes or more, so there are fewer than 11,000, and each has 16 bytes and 3 for
+/// each name of its chain.
+const REPORT_LIMIT: usize = 64 << 20;
+/// Where `report_vec` starts; enough for all but very long reports.
+const FIRST_REPORT_LENGTH: usize = 4_096;
+
+mod calls {
+    extern "C" {
+        pub fn layout_accept(bundle: *const u8, bundle_len: usize) -> u8;
+        pub fn layout_report(
+            bundle: *const u8,
+            bundle_len: usize,
+            out: *mut u8,
+            out_len: usize,
+            written: *mut usize,
+        ) -> u8;
+        pub fn layout_renumber(
+            bundle: *const u8,
+            bundle_len: usize,
+            out: *mut u8,
+            out_len: usize,
+            written: *mut usize,
+        ) -> u8;
+        pub fn layout_chain(
+            bundle: *const u8,
+            bundle_len: usize,
+            from: u16,
+            to: u16,
+            list: *mut u16,
+            list_len: usize,
+            written: *mut usize,
+        ) -> u8;
+    }
+}
+
+/// Whether the bundle is sound. Violations are no matter of this call.
+pub fn accept(bundle: &[u8]) -> Result<(), Refusal> {
+    // The slice is readable for its whole length, and nothing is written.
+    let number = unsafe { calls::layout_accept(bundle.as_ptr(), bundle.len()) };
+    outcome(number, ())
+}
+
+/// Writes the report at the start of `out` and gives its length.
+pub fn report(bundle: &[u8], out: &mut [u8]) -> Result<usize, Refusal> {
+    let mut written = 0;
+    // Both slices are valid for their lengths, and `&mut` keeps them apart.
+    let number = unsafe {
+        calls::layout_report(
+            bundle.as_ptr(),
+            bundle.len(),
+            out.as_mut_ptr(),
+            out.len(),
+            &mut written,
+        )
+    };
+    outcome(number, written)
+}
+
+/// Writes the bundle with its names numbered by first appearance.
+pub fn renumber(bundle: &[u8], out: &mut [u8]) -> Result<usize, Refusal> {
+    let mut written = 0;
+    // As in `report`.
+    let number = unsafe {
+        calls::layout_renumber(
+            bundle.as_ptr(),
+            bundle.len(),
+            out.as_mut_ptr(),
+            out.len(),
+            &mut written,
+        )
+    };
+    outcome(number, written)
+}
+
+/// Writes the names of the chain from one name to another; 0 if there is none.
+pub fn chain(bundle: &[u8], from: u16, to: u16, list: &mut [u16]) -> Result<usize, Refusal> {
+    let mut written = 0;
+    // As in `report`; the list's length counts names, not bytes.
+    let number = unsafe {
+        calls::layout_chain(
+            bundle.as_ptr(),
+            bundle.len(),
+            from,
+            to,
+            list.as_mut_ptr(),
+            list.len(),
+            &mut written,
+        )
+    };
+    outcome(number, written)
+}
+
+/// The report, in a buffer that grows as long as it is too short.
+pub fn report_vec(bundle: &[u8]) -> Result<Vec<u8>, Refusal> {
+    let mut out = vec![0; FIRST_REPORT_LENGTH];
+    loop {
+        match report(bundle, &mut out) {
+            Ok(written) => {
+                out.truncate(written);
+                return Ok(out);
+            }
+            Err(Refusal::Narrow) if out.len() < REPORT_LIMIT => out.resize(out.len() * 4, 0),
+            Err(refusal) => return Err(refusal),
+        }
+    }
+}
+
+/// The renumbered bundle.
+pub fn renumber_vec(bundle: &[u8]) -> Result<Vec<u8>, Refusal> {
+    let mut out = vec![0; bundle.len().min(BYTE_LIMIT)];
+    let written = renumber(bundle, &mut out)?;
+    out.truncate(written);
+    Ok(out)
+}
+
+/// The chain from one name to another; empty if there is none.
+pub fn chain_vec(bundle: &[u8], from: u16, to: u16) -> Result<Vec<u16>, Refusal> {
+    let mut list = vec![0; CHAIN_LIMIT];
+    let written = chain(bundle, from, to, &mut list)?;
+    list.truncate(written);
+    Ok(list)
+}
+
+fn outcome<T>(number: u8, value: T) -> Result<T, Refusal> {
+    match number {
+        0 => Ok(value),
+        _ => Err(Refusal::from_number(number)
+            .unwrap_or_else(|| panic!("the library answered {number}, which is no refusal"))),
+    }
+}

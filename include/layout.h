@@ -1,0 +1,78 @@
+/* The layout checks, for callers in C.
+ *
+ * A bundle is a set of frame definitions as bytes, 32,768 at most. Each call
+ * below reads a bundle, refuses one that is damaged, and answers about one that
+ * is sound. An answer depends on the call's arguments alone, not on earlier calls.
+ *
+ * What a call returns: 0 if the bundle was accepted, otherwise the number of the
+ * refusal (see below).
+ *
+ * What happens to the output: an accepted call writes `*written` items from the
+ * start of the buffer and leaves the rest of the buffer as it was. A refused
+ * call leaves the whole buffer and `*written` as they were. The bundle is only
+ * read. Bundle, buffer and `written` must not overlap.
+ *
+ * A pointer to a bundle or a buffer may be null only if its length is 0;
+ * `written` may never be null.
+ */
+#ifndef LAYOUT_H
+#define LAYOUT_H
+
+#include <stddef.h>
+#include <stdint.h>
+
+#ifdef __cplusplus
+extern "C" {
+#endif
+
+/* Limits of a bundle. */
+#define LAYOUT_BYTE_LIMIT 32768
+#define LAYOUT_DEFINITION_LIMIT 256
+#define LAYOUT_EDGE_LIMIT 1024
+#define LAYOUT_DEPTH_LIMIT 24
+
+/* The answers. 1 comes before all others. 2 to 6 are found while the bytes are
+ * read front to back, and the first fault counts. Then come 7, 8 and 9. */
+enum layout_refusal {
+  LAYOUT_ACCEPTED = 0,
+  LAYOUT_OVERLONG = 1,  /* overlong: more than 32,768 bytes */
+  LAYOUT_SHORT = 2,     /* short: the bytes end where more are due */
+  LAYOUT_STRANGER = 3,  /* stranger: a kind byte that may not stand there */
+  LAYOUT_OFF_SCALE = 4, /* off scale: packed or jagged over 1, edge kind over 3 */
+  LAYOUT_CROWDED = 5,   /* crowded: over 256 definitions or 1,024 edges */
+  LAYOUT_BURIED = 6,    /* buried: a type or expression due at depth 25 */
+  LAYOUT_TRAILING = 7,  /* trailing: bytes after the last record due */
+  LAYOUT_CIRCLE = 8,    /* circle: a definition leads back to itself */
+  LAYOUT_NARROW = 9     /* narrow: the output is longer than the buffer lent */
+};
+
+/* Whether the bundle is sound: refusals 1 to 8 or 0. It says nothing about
+ * violations; layout_report does. */
+uint8_t layout_accept(const uint8_t *bundle, size_t bundle_len);
+
+/* Writes the report: 70, the number of violations, then the violations. A set
+ * passes if that number is 0; the report then has three bytes. Refusals 1 to 9.
+ * A violation takes 16 bytes and 3 for each name of its chain. A buffer of 65,536
+ * bytes is enough for all but sets with very many violations or long chains. */
+uint8_t layout_report(const uint8_t *bundle, size_t bundle_len, uint8_t *out,
+                      size_t out_len, size_t *written);
+
+/* Writes the bundle with its names numbered 1, 2, 3 by first appearance; name 0
+ * stays. The result has as many bytes as the bundle. Refusals 1 to 9. */
+uint8_t layout_renumber(const uint8_t *bundle, size_t bundle_len, uint8_t *out,
+                        size_t out_len, size_t *written);
+
+/* Writes the names on the shortest path of edges from one name to another, both
+ * included; of several equally short ones the first by edge numbers. From a name
+ * to itself the chain is that name. Without a path the call is accepted and
+ * `*written` is 0. Refusals 1 to 8, and 9 only if there is a chain and it has
+ * more than `list_len` names. No chain has more than 1,025 names. */
+uint8_t layout_chain(const uint8_t *bundle, size_t bundle_len, uint16_t from,
+                     uint16_t to, uint16_t *list, size_t list_len,
+                     size_t *written);
+
+#ifdef __cplusplus
+}
+#endif
+
+#endif

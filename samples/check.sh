@@ -1,0 +1,46 @@
+#!/bin/sh
+# Assembles and explains each sample and compares with what is stored beside it.
+# Usage: samples/check.sh [LIBRARY]
+# With LIBRARY, layout-text is built over that static library first (see
+# tools/layout-text/build.sh); otherwise it is built only where it is missing.
+set -eu
+cd "$(dirname "$0")/.."
+tool=tools/layout-text/target/layout-text
+work=tools/layout-text/target/samples
+if [ $# -gt 0 ] || [ ! -x "$tool" ]; then
+  tools/layout-text/build.sh "$@"
+fi
+mkdir -p "$work"
+. samples/list.sh
+
+passed=0
+failed=0
+compare() {
+  if cmp -s "$2" "$3"; then
+    passed=$((passed + 1))
+  else
+    failed=$((failed + 1))
+    echo "failed: $1"
+    diff "$2" "$3" | head -10
+  fi
+}
+
+for name in $names; do
+  bundle $name > "$work/bundle"
+  "$tool" explain "$work/bundle" --names "$(text $name)" > "$work/words" || [ $? -le 2 ]
+  "$tool" explain "$work/bundle" --hex > "$work/hex" || [ $? -le 2 ]
+  compare "$name, in words" "samples/$name.expected" "$work/words"
+  compare "$name, report" "samples/$name.report" "$work/hex"
+done
+for name in $texts; do
+  "$tool" explain "samples/$name.layout" > "$work/words" || [ $? -le 2 ]
+  compare "$name, from the text" "samples/$name.expected" "$work/words"
+  bundle $name > "$work/bundle"
+  # A bundle that cannot be read cannot be shown either.
+  if "$tool" show "$work/bundle" --names "samples/$name.layout" > "$work/shown.layout" 2> "$work/message"; then
+    "$tool" assemble "$work/shown.layout" > "$work/again" 2> /dev/null
+    compare "$name, shown and assembled again" "$work/bundle" "$work/again"
+  fi
+done
+echo "$passed passed, $failed failed"
+[ "$failed" -eq 0 ]

@@ -1,0 +1,21 @@
+#!/bin/sh
+# Writes NAME.report and NAME.expected beside each sample, with the original as
+# the source: the oracle (tools/oracle/build.sh) gives the report's bytes, and
+# layout-text (tools/layout-text/build.sh) puts them into words.
+# Usage: samples/make-expected.sh
+set -eu
+cd "$(dirname "$0")/.."
+tool=tools/layout-text/target/layout-text
+work=tools/layout-text/target/samples
+mkdir -p "$work"
+. samples/list.sh
+
+for name in $names; do
+  bundle $name > "$work/bundle"
+  tools/oracle/target/oracle report < "$work/bundle" > "$work/report"
+  # An exit code other than 0 tells of violations or a refusal.
+  "$tool" explain "$work/bundle" --names "$(text $name)" --report "$work/report" --hex \
+    > "samples/$name.report" || [ $? -le 2 ]
+  "$tool" explain "$work/bundle" --names "$(text $name)" --report "$work/report" \
+    > "samples/$name.expected" || [ $? -le 2 ]
+done

@@ -1,0 +1,305 @@
+//! The bundles that are measured.
+
+use layout_oracle::bundle::*;
+use layout_oracle::generate::pad;
+
+const PLAIN: Attributes = Attributes {
+    packed: false,
+    aligned: 0,
+};
+const U8: Type = Type::Primitive(0x30);
+const U16: Type = Type::Primitive(0x31);
+const U32: Type = Type::Primitive(0x32);
+const F32: Type = Type::Primitive(0x3A);
+const CHAR: Type = Type::Primitive(0x38);
+const ADD: u8 = 0x10;
+
+fn literal(value: u64) -> Expr {
+    Expr::Literal(4, value)
+}
+
+fn field_of(owner: Name, field: Name) -> Expr {
+    Expr::FieldRef(vec![owner, field])
+}
+
+fn member(name: Name, member_type: Type) -> Member {
+    Member {
+        name,
+        value: 0,
+        member_type,
+    }
+}
+
+fn structure(list: Vec<(Name, Type)>) -> Type {
+    let members = list.into_iter().map(|(name, body)| member(name, body));
+    Type::Struct(PLAIN, members.collect())
+}
+
+fn array(size: Expr, element: Type) -> Type {
+    Type::Array(PLAIN, false, size, Box::new(element))
+}
+
+fn jagged(size: Expr, element: Type) -> Type {
+    Type::Array(PLAIN, true, size, Box::new(element))
+}
+
+/// The example of the paper: a jagged array of three U8.
+pub fn example() -> Bundle {
+    Bundle {
+        current: 0,
+        definitions: vec![Definition {
+            name: 1,
+            body: jagged(literal(3), U8),
+        }],
+        edges: Vec::new(),
+    }
+}
+
+/// Names of one device's definitions, and of the fields that all devices share.
+struct Device {
+    head: Name,
+    record: Name,
+    tension: Name,
+    samples: Name,
+    attachment: Name,
+    attachments: Name,
+    frame: Name,
+}
+
+const COUNT: Name = 1_001;
+const KIND: Name = 1_002;
+const NOTE: Name = 1_003;
+const FIRST_FIELD: Name = 1_010;
+
+const DEVICES: Name = 20;
+
+fn device(number: Name) -> Device {
+    let first = 7 * number + 1;
+    Device {
+        head: first,
+        record: first + 1,
+        tension: first + 2,
+        samples: first + 3,
+        attachment: first + 4,
+        attachments: first + 5,
+        frame: first + 6,
+    }
+}
+
+/// 140 definitions and 600 edges: twenty winches of seven definitions. The first
+/// `broken` of them have one violation each.
+pub fn realistic(broken: Name) -> Bundle {
+    let mut bundle = Bundle {
+        current: device(0).frame,
+        ..Bundle::default()
+    };
+    for number in 0..DEVICES {
+        let own = device(number);
+        let mut bodies = sound_bodies(&own);
+        if number < broken {
+            break_one(&own, number, &mut bodies);
+        }
+        for (name, body) in bodies {
+            bundle.definitions.push(Definition { name, body });
+        }
+    }
+    (0..DEVICES).for_each(|number| add_edges(number, &mut bundle.edges));
+    bundle
+}
+
+fn sound_bodies(own: &Device) -> Vec<(Name, Type)> {
+    let plain = |count: Name| (0..count).map(|at| (FIRST_FIELD + at, U32));
+    let mut head: Vec<(Name, Type)> = plain(4).collect();
+    head.push((COUNT, U16));
+    let mut record: Vec<(Name, Type)> = plain(3).collect();
+    record.push((KIND, U8));
+    record.push((own.tension, Type::TypeRef(own.tension)));
+    let note = array(field_of(own.attachment, COUNT), CHAR);
+    let mut frame = vec![(COUNT, U16), (KIND, U8)];
+    for part in [own.head, own.record, own.samples, own.attachments] {
+        frame.push((part, Type::TypeRef(part)));
+    }
+    frame.extend(plain(2));
+    let twice = Expr::Binary(
+        0x12,
+        Box::new(field_of(own.head, COUNT)),
+        Box::new(literal(2)),
+    );
+    vec![
+        (own.head, structure(head)),
+        (own.record, structure(record)),
+        (own.tension, tension(field_of(own.record, KIND))),
+        (own.samples, array(twice, U16)),
+        (own.attachment, structure(vec![(COUNT, U8), (NOTE, note)])),
+        (
+            own.attachments,
+            jagged(field_of(own.head, COUNT), Type::TypeRef(own.attachment)),
+        ),
+        (own.frame, structure(frame)),
+    ]
+}
+
+fn tension(tag: Expr) -> Type {
+    let variant = |value: u64, member_type| Member {
+        name: FIRST_FIELD + value as Name,
+        value,
+        member_type,
+    };
+    let variants = vec![
+        variant(0, structure(Vec::new())),
+        variant(1, U16),
+        variant(2, F32),
+    ];
+    Type::Enum(PLAIN, tag, variants)
+}
+
+/// Puts one violation into a device, of another type for each of five numbers.
+fn break_one(own: &Device, number: Name, bodies: &mut [(Name, Type)]) {
+    let (place, body) = match number % 5 {
+        0 => (3, array(field_of(own.frame, COUNT), U16)),
+        1 => (5, jagged(field_of(own.head, COUNT), U8)),
+        2 => (5, jagged(literal(4), Type::TypeRef(own.tension))),
+        3 => (3, array(literal(8), Type::TypeRef(own.attachment))),
+        _ => (2, tension(field_of(own.frame, KIND))),
+    };
+    // The tag of the last is no longer a field of the record that holds it.
+    bodies[place].1 = body;
+}
+
+fn add_edges(number: Name, edges: &mut Vec<Edge>) {
+    let own = device(number);
+    let mut edge = |from, to, kind| edges.push(Edge { from, to, kind });
+    edge(own.frame, own.head, 0);
+    edge(own.frame, own.record, 0);
+    edge(own.frame, own.samples, 0);
+    edge(own.frame, own.attachments, 0);
+    edge(own.record, own.tension, 0);
+    edge(own.tension, own.record, 3);
+    edge(own.samples, own.head, 2);
+    edge(own.attachments, own.head, 2);
+    edge(own.attachments, own.attachment, 0);
+    edge(own.attachment, own.attachment, 1);
+    for step in 0..10 {
+        let other = device((number + step + 1) % DEVICES);
+        edge(own.frame, other.head, 1);
+        edge(own.frame, other.attachment, 1);
+    }
+}
+
+/// A worst case of about this many bytes, exactly so for the largest.
+pub type Worst = fn(usize) -> Bundle;
+
+fn size(bundle: &Bundle) -> usize {
+    encode(bundle).len()
+}
+
+/// Adds definitions as long as they fit and 256 are not reached.
+fn fill(bundle: &mut Bundle, bytes: usize, next: &dyn Fn(Name) -> Definition) {
+    // The last definition is one that fills the rest.
+    let mut length = size(bundle) + 14;
+    for number in 0.. {
+        let definition = next(number);
+        let one = Bundle {
+            definitions: vec![definition.clone()],
+            ..Bundle::default()
+        };
+        length += size(&one) - 7;
+        if length > bytes || bundle.definitions.len() + 1 >= DEFINITION_LIMIT {
+            break;
+        }
+        bundle.definitions.push(definition);
+    }
+    bundle.definitions.push(Definition {
+        name: 60_000,
+        body: U8,
+    });
+    pad(bundle, bytes);
+}
+
+/// Arrays in arrays, down to depth 24, none of a size that hangs on a field.
+pub fn deep_nesting(bytes: usize) -> Bundle {
+    let mut bundle = Bundle::default();
+    fill(&mut bundle, bytes, &|number| Definition {
+        name: number + 1,
+        body: (0..23).fold(U8, |inner, _| array(literal(3), inner)),
+    });
+    bundle
+}
+
+/// Structs of which each holds the one before twice, under arrays of structs
+/// with many TypeRefs to the last of them.
+fn shared(bytes: usize, levels: Name) -> Bundle {
+    let mut bundle = Bundle::default();
+    for level in 0..levels {
+        let body = match level {
+            0 => U8,
+            _ => structure(vec![(1, Type::TypeRef(level)), (2, Type::TypeRef(level))]),
+        };
+        let name = level + 1;
+        bundle.definitions.push(Definition { name, body });
+    }
+    fill(&mut bundle, bytes, &|number| {
+        let wide = (0..80).map(|field| (field + 1, Type::TypeRef(levels)));
+        Definition {
+            name: 1_000 + number,
+            body: array(literal(3), structure(wide.collect())),
+        }
+    });
+    bundle
+}
+
+/// As much sharing as the original can finish.
+pub fn shared_some(bytes: usize) -> Bundle {
+    shared(bytes, 12)
+}
+
+/// More sharing than the original could finish in a lifetime.
+pub fn shared_much(bytes: usize) -> Bundle {
+    shared(bytes, 150)
+}
+
+/// A line of edges in proportion to the bytes: 1,024 in the largest.
+fn line(bytes: usize) -> Bundle {
+    let count = (bytes * EDGE_LIMIT / BYTE_LIMIT) as Name;
+    let edge = |from| Edge {
+        from,
+        to: from + 1,
+        kind: 0,
+    };
+    Bundle {
+        edges: (1..=count).map(edge).collect(),
+        ..Bundle::default()
+    }
+}
+
+/// A sum of references to fields of the first names of the line.
+fn sum(count: usize, first: usize) -> Expr {
+    if count == 1 {
+        return field_of(1 + (first % 16) as Name, COUNT);
+    }
+    let half = count / 2;
+    let left = Box::new(sum(half, first));
+    Expr::Binary(ADD, left, Box::new(sum(count - half, first + half)))
+}
+
+fn sums(bytes: usize, name: Name) -> Bundle {
+    let mut bundle = line(bytes);
+    fill(&mut bundle, bytes, &|_| Definition {
+        name,
+        body: array(sum(128, 0), U8),
+    });
+    bundle
+}
+
+/// Arrays under the name at the end of the line: every search finds a chain of
+/// nearly all names.
+pub fn long_chains(bytes: usize) -> Bundle {
+    let last = (bytes * EDGE_LIMIT / BYTE_LIMIT) as Name + 1;
+    sums(bytes, last)
+}
+
+/// Arrays under a name that no edge leads to: every search goes through the
+/// whole line and fails.
+pub fn failing_searches(bytes: usize) -> Bundle {
+    sums(bytes, 50_000)
+}

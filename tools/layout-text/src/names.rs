@@ -1,0 +1,67 @@
+//! Words for names, and the numbers that stand for them in the bytes.
+
+use crate::tree::Name;
+use std::collections::{BTreeMap, HashMap, HashSet};
+
+#[derive(Clone, Debug, Default)]
+pub struct Names {
+    words: BTreeMap<Name, String>,
+    numbers: HashMap<String, Name>,
+    /// Numbers that no word may be given without being asked for.
+    taken: HashSet<Name>,
+    last_given: Name,
+}
+
+impl Names {
+    /// Keeps a number from being given to a word.
+    pub fn take(&mut self, number: Name) {
+        self.taken.insert(number);
+    }
+
+    /// Gives a word its number, or says which word has one of the two already.
+    pub fn set(&mut self, word: &str, number: Name) -> Result<(), String> {
+        if let Some(other) = self.words.get(&number) {
+            return Err(format!("number {number} is the name `{other}` already"));
+        }
+        if let Some(other) = self.numbers.get(word) {
+            return Err(format!("`{word}` has the number {other} already"));
+        }
+        self.words.insert(number, word.to_string());
+        self.numbers.insert(word.to_string(), number);
+        self.taken.insert(number);
+        Ok(())
+    }
+
+    /// The word's number; a new word gets the lowest free one, from 1 on.
+    pub fn number(&mut self, word: &str) -> Result<Name, String> {
+        if let Some(number) = self.numbers.get(word) {
+            return Ok(*number);
+        }
+        let free = |number: &Name| !self.taken.contains(number);
+        let start = self.last_given.saturating_add(1);
+        let number = (start..=Name::MAX)
+            .find(free)
+            .ok_or("no number is left for this name; there are 65,535")?;
+        self.last_given = number;
+        self.set(word, number)?;
+        Ok(number)
+    }
+
+    /// The word of a number, or the number with its sign: `#17`.
+    pub fn word(&self, number: Name) -> String {
+        match self.words.get(&number) {
+            Some(word) => word.clone(),
+            None => format!("#{number}"),
+        }
+    }
+
+    pub fn has(&self, number: Name) -> bool {
+        self.words.contains_key(&number)
+    }
+
+    /// Names joined by a sign or an arrow.
+    pub fn join(&self, list: &[Name], between: &str) -> String {
+        let words: Vec<String> = list.iter().map(|name| self.word(*name)).collect();
+        words.join(between)
+    }
+}

@@ -1,0 +1,91 @@
+//! The bytes of a report to violations.
+
+use crate::tree::Name;
+
+#[derive(Clone, Debug, PartialEq, Eq)]
+pub struct Violation {
+    /// 1 to 8.
+    pub kind: u8,
+    pub definition: usize,
+    pub name: Name,
+    pub path: Vec<Name>,
+    pub chain: Vec<Name>,
+}
+
+/// What the bytes of a report or of the program's output say.
+#[derive(Clone, Debug, PartialEq, Eq)]
+pub enum Report {
+    Violations(Vec<Violation>),
+    Refused(u8),
+}
+
+/// The report, or where and why the bytes are none.
+pub fn read(bytes: &[u8]) -> Result<Report, String> {
+    let mut reader = Reader { bytes, at: 0 };
+    let report = match reader.byte()? {
+        0x7E => Report::Refused(reader.byte()?),
+        0x70 => {
+            let count = reader.word()?;
+            let list = (0..count).map(|_| reader.violation());
+            Report::Violations(list.collect::<Result<_, String>>()?)
+        }
+        kind => return Err(format!("byte 0 is {kind:02X}, but 70 or 7E is due")),
+    };
+    match reader.at == bytes.len() {
+        true => Ok(report),
+        false => Err(format!(
+            "the report ends at byte {}, but more follow",
+            reader.at
+        )),
+    }
+}
+
+struct Reader<'a> {
+    bytes: &'a [u8],
+    at: usize,
+}
+
+impl Reader<'_> {
+    fn byte(&mut self) -> Result<u8, String> {
+        let byte = self.bytes.get(self.at).copied();
+        self.at += 1;
+        byte.ok_or_else(|| format!("the bytes end at {}, where more are due", self.bytes.len()))
+    }
+
+    fn word(&mut self) -> Result<u16, String> {
+        Ok(u16::from_le_bytes([self.byte()?, self.byte()?]))
+    }
+
+    fn violation(&mut self) -> Result<Violation, String> {
+        let start = self.at;
+        let kind = self.byte()?;
+        if !(0x71..=0x78).contains(&kind) {
+            return Err(format!("byte {start} is {kind:02X}, but 71 to 78 is due"));
+        }
+        let definition = usize::from(self.word()?);
+        let name = self.word()?;
+        let count = usize::from(self.byte()?);
+        if count > 4 {
+            return Err(format!("byte {} counts {count} names of a path", start + 5));
+        }
+        let mut path = vec![self.word()?, self.word()?, self.word()?, self.word()?];
+        path.truncate(count);
+        let length = self.word()?;
+        let chain = (0..length).map(|_| self.chain_name());
+        let chain = chain.collect::<Result<_, String>>()?;
+        Ok(Violation {
+            kind: kind - 0x70,
+            definition,
+            name,
+            path,
+            chain,
+        })
+    }
+
+    fn chain_name(&mut self) -> Result<Name, String> {
+        match self.byte()? {
+            0x7F => self.word(),
+            kind => Err(format!("byte {} is {kind:02X}, but 7F is due", self.at - 1)),
+        }
+    }
+}

@@ -1,0 +1,69 @@
+//! The words and signs of the notation, in the order of their kind bytes.
+
+use crate::tree::{GroupKind, Type};
+
+/// From kind byte 30 on.
+pub const PRIMITIVES: [&str; 12] = [
+    "u8", "u16", "u32", "u64", "i8", "i16", "i32", "i64", "char", "f16", "f32", "f64",
+];
+pub const FIRST_PRIMITIVE: u8 = 0x30;
+
+/// Endings of literals, from kind byte 01 on.
+pub const LITERALS: [&str; 8] = ["u64", "u32", "u16", "u8", "i64", "i32", "i16", "i8"];
+pub const FIRST_LITERAL: u8 = 0x01;
+/// From this kind byte on literals are signed.
+pub const FIRST_SIGNED_LITERAL: u8 = 0x05;
+
+/// From kind byte 10 on.
+pub const BINARY: [&str; 20] = [
+    "+", "-", "*", "/", "%", "**", "&", "|", "^", "<<", ">>", "==", "!=", "<", ">", "<=", ">=",
+    "&&", "||", "^^",
+];
+pub const FIRST_BINARY: u8 = 0x10;
+
+/// From kind byte 24 on. The last one is written like a call.
+pub const UNARY: [&str; 4] = ["~", "-", "!", "popcount"];
+pub const FIRST_UNARY: u8 = 0x24;
+pub const NEG: u8 = 0x25;
+pub const POPCOUNT: u8 = 0x27;
+
+/// Edge kinds 0 to 3.
+pub const EDGE_KINDS: [&str; 4] = ["type", "field", "size", "tag"];
+
+pub const GROUPS: [(&str, GroupKind); 4] = [
+    ("struct", GroupKind::Struct),
+    ("union", GroupKind::Union),
+    ("enum", GroupKind::Enum),
+    ("size-union", GroupKind::SizeUnion),
+];
+
+/// The kind byte that a word or sign of a list stands for.
+pub fn kind_of(list: &[&str], first: u8, word: &str) -> Option<u8> {
+    let place = list.iter().position(|other| *other == word)?;
+    Some(first + place as u8)
+}
+
+/// The word or sign of a kind byte.
+pub fn word_of(list: &[&'static str], first: u8, kind: u8) -> &'static str {
+    list[usize::from(kind - first)]
+}
+
+pub fn group_word(kind: GroupKind) -> &'static str {
+    match kind {
+        GroupKind::Struct => "struct",
+        GroupKind::Union => "union",
+        GroupKind::Enum => "enum",
+        GroupKind::SizeUnion => "size-union",
+    }
+}
+
+/// What a type is, in one or two words.
+pub fn type_word(node: &Type) -> &'static str {
+    match node {
+        Type::Primitive(kind) => word_of(&PRIMITIVES, FIRST_PRIMITIVE, *kind),
+        Type::TypeRef(_) => "ref",
+        Type::Group(group) => group_word(group.kind),
+        Type::Array(array) if array.jagged => "jagged array",
+        Type::Array(_) => "array",
+    }
+}

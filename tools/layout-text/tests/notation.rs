@@ -1,0 +1,169 @@
+//! The notation on small texts: bytes, numbers of names, faults with their place.
+
+use layout_text::encode::encode;
+use layout_text::parse::parse;
+use layout_text::read::read;
+use layout_text::show::show;
+use layout_text::tree::{Expr, Type};
+
+fn bytes(text: &str) -> Vec<u8> {
+    let text = parse(text).unwrap_or_else(|error| panic!("{error}"));
+    encode(&text.bundle).expect("few enough of everything")
+}
+
+/// Line, column and message of a text's fault.
+fn fault(text: &str) -> (usize, usize, String) {
+    match parse(text) {
+        Ok(_) => panic!("no fault in {text}"),
+        Err(error) => (error.place.line, error.place.column, error.message),
+    }
+}
+
+/// The size of `define a array [...] u8`.
+fn size(expression: &str) -> Expr {
+    let text = format!("define a array [{expression}] u8");
+    let parsed = parse(&text).unwrap_or_else(|error| panic!("{expression}: {error}"));
+    match &parsed.bundle.definitions[0].body {
+        Type::Array(array) => array.size.clone(),
+        other => panic!("{other:?}"),
+    }
+}
+
+#[test]
+fn the_paper_s_example() {
+    let expected = [
+        0x60, 1, 0, 0, 0, 0, 0, 0x61, 1, 0, 0x44, 0, 0, 0, 0, 0, 0, 0, 0, 0, 1, 4, 3, 0x30,
+    ];
+    assert_eq!(bytes("define trace jagged array [3u8] u8"), expected);
+}
+
+#[test]
+fn an_empty_text_is_an_empty_bundle() {
+    assert_eq!(bytes(""), [0x60, 0, 0, 0, 0, 0, 0]);
+    assert_eq!(bytes("  // nothing\n"), [0x60, 0, 0, 0, 0, 0, 0]);
+}
+
+#[test]
+fn names_are_numbered_by_first_use() {
+    let list = bytes("edge i -> #0 type edge i -> g tag");
+    assert_eq!(list[7..], [0x62, 1, 0, 0, 0, 0, 0x62, 1, 0, 2, 0, 3]);
+    // 2 is asked for by `b`, 1 by `#1`.
+    let list = bytes("name b = 2 edge a -> b field edge c -> #1 size");
+    assert_eq!(list[7..], [0x62, 3, 0, 2, 0, 1, 0x62, 4, 0, 1, 0, 2]);
+}
+
+#[test]
+fn words_of_the_notation_may_be_names() {
+    let text = "current current define struct struct { packed: u8, size: ref edge, sizeof: i8 }
+        define define array [sizeof.name + sizeof(sizeof)] u8
+        edge edge -> define type";
+    assert_eq!(parse(text).unwrap().bundle.definitions.len(), 2);
+}
+
+#[test]
+fn every_type_has_its_bytes() {
+    let text = "define a size-union packed aligned 256 { b = 3: f16 }";
+    let expected = [
+        0x45, 1, 0, 1, 0, 0, 0, 0, 0, 0, 1, 0, 0x53, 2, 0, 3, 0, 0, 0, 0, 0, 0, 0, 0x39,
+    ];
+    assert_eq!(bytes(text)[10..], expected);
+    let text = "define a enum (b) { c = 1: char d = 0xFFFFFFFFFFFFFFFF: ref a }";
+    let list = bytes(text);
+    assert_eq!(list[10], 0x43);
+    assert_eq!(list[22..25], [0x09, 2, 0]);
+    assert_eq!(list[25..37], [0x52, 3, 0, 1, 0, 0, 0, 0, 0, 0, 0, 0x38]);
+    assert_eq!(list[37..40], [0x52, 4, 0]);
+    assert_eq!(list[48..], [0x40, 1, 0]);
+    assert_eq!(bytes("define a union { b: f64 }")[22..], [0x51, 2, 0, 0x3B]);
+}
+
+#[test]
+fn literals_keep_their_kind_and_sign() {
+    assert_eq!(size("3"), Expr::Literal(1, 3));
+    assert_eq!(size("0x1Fu32"), Expr::Literal(2, 31));
+    assert_eq!(size("65_535u16"), Expr::Literal(3, 65_535));
+    assert_eq!(size("-1i64"), Expr::Literal(5, u64::MAX));
+    assert_eq!(size("-128i8"), Expr::Literal(8, 128));
+    assert_eq!(size("127i8"), Expr::Literal(8, 127));
+    let negated = Expr::Unary(0x25, Box::new(Expr::Literal(8, 5)));
+    assert_eq!(size("- 5i8"), negated);
+    assert_eq!(size("-(5i8)"), negated);
+}
+
+#[test]
+fn rows_group_from_the_left() {
+    assert_eq!(size("a - b - c"), size("(a - b) - c"));
+    assert_ne!(size("a - b - c"), size("a - (b - c)"));
+    assert_eq!(size("a -1i8"), size("a - 1i8"));
+    assert_eq!(size("popcount(a ^^ !b)"), size("popcount((a) ^^ (!(b)))"));
+    assert_eq!(size("a.b.c.#7"), Expr::FieldRef(vec![1, 2, 3, 7]));
+}
+
+#[test]
+fn faults_have_line_and_column() {
+    let (line, column, message) = fault("define a struct {\n    x: cell\n}");
+    assert_eq!((line, column), (2, 8));
+    assert!(message.contains("`ref`"), "{message}");
+    let (line, column, message) = fault("define a array [a + b * c] u8");
+    assert_eq!((line, column), (1, 23));
+    assert!(message.contains("parentheses"), "{message}");
+    assert_eq!(fault("define a struct {\n").0, 2);
+    assert_eq!(fault("define a array [300u8] u8").1, 17);
+    assert_eq!(fault("define a array [-1u8] u8").1, 18);
+    assert_eq!(fault("define a array [a.b.c.d.e] u8").1, 24);
+    assert_eq!(fault("edge a -> b link").1, 13);
+    assert_eq!(fault("edge a -> b tag define c u8").1, 17);
+    assert_eq!(fault("name a = 1\nname b = 1").0, 2);
+    assert_eq!(fault("name a = 70000").1, 10);
+    assert_eq!(fault("edge #65536 -> b tag").1, 6);
+    assert_eq!(fault("define a u8 ; ").1, 13);
+    assert_eq!(fault("// é\ndefine é $").1, 10);
+    assert_eq!(fault("define a enum { b = 1: u8 }").1, 15);
+    assert_eq!(fault("define a struct { b = 1: u8 }").1, 21);
+}
+
+#[test]
+fn deep_texts_are_stopped() {
+    let parens = format!("define a array [{}a", "(".repeat(100_000));
+    assert!(fault(&parens).2.contains("deep"));
+    let row = format!("define a array [a{}] u8", " + a".repeat(100_000));
+    assert!(fault(&row).2.contains("deep"));
+    let types = format!("define a {}", "array [1] ".repeat(100_000));
+    assert!(fault(&types).2.contains("deep"));
+}
+
+#[test]
+fn show_leaves_out_a_table_that_is_not_needed() {
+    let text = "current a\n\ndefine a struct {\n    b: ref c\n}\n\nedge a -> c type\n";
+    let parsed = parse(text).unwrap();
+    assert_eq!(show(&parsed.bundle, &parsed.names), text);
+    let text = "name c = 4\nname a = 9\n\ncurrent a\n\nedge a -> c type\n";
+    let parsed = parse(text).unwrap();
+    assert_eq!(show(&parsed.bundle, &parsed.names), text);
+}
+
+#[test]
+fn reading_stops_at_the_fault() {
+    let sound = bytes("define a struct { b: array [c + 1u8] u16 } edge a -> b tag");
+    let position = |list: &[u8]| {
+        let fault = read(list).expect_err("a fault");
+        (fault.refusal.number(), fault.position)
+    };
+    let changed = |at: usize, value: u8| {
+        let mut list = sound.clone();
+        list[at] = value;
+        position(&list)
+    };
+    assert_eq!(position(&[]), (2, 0));
+    assert_eq!(position(&sound[..sound.len() - 1]), (2, sound.len() - 1));
+    assert_eq!(changed(0, 0x61), (3, 0));
+    assert_eq!(changed(2, 2), (5, 1));
+    assert_eq!(changed(4, 9), (5, 3));
+    assert_eq!(changed(10, 0x46), (3, 10));
+    assert_eq!(changed(11, 2), (4, 11));
+    assert_eq!(changed(35, 2), (4, 35));
+    assert_eq!(changed(sound.len() - 1, 4), (4, sound.len() - 1));
+    let longer = [&sound[..], &[0, 0]].concat();
+    assert_eq!(position(&longer), (7, sound.len()));
+    assert_eq!(position(&[0x60; 40_000]), (1, 32_768));
+}

@@ -1,0 +1,129 @@
+//! Random bundles of the oracle's generator, sound and damaged, and damaged texts.
+
+use layout_oracle::random::Random;
+use layout_oracle::{bundle, damage, generate, reader};
+use layout_text::encode::encode;
+use layout_text::explain::{explain, Source};
+use layout_text::names::Names;
+use layout_text::parse::parse;
+use layout_text::read::read;
+use layout_text::report;
+use layout_text::show::show;
+
+const ROUNDS: usize = 4_000;
+
+/// Words for about two thirds of the names up to 40.
+fn some_names(random: &mut Random) -> Names {
+    let mut names = Names::default();
+    for number in 0..40 {
+        if random.chance(66) {
+            names.set(&format!("name_{number}"), number).unwrap();
+        }
+    }
+    names
+}
+
+fn assemble(text: &str) -> Vec<u8> {
+    let parsed = parse(text).unwrap_or_else(|error| panic!("{error}\n{text}"));
+    encode(&parsed.bundle).expect("few enough of everything")
+}
+
+#[test]
+fn assemble_undoes_show() {
+    let mut random = Random::new(1);
+    let mut kinds = [false; 256];
+    for _ in 0..ROUNDS {
+        let sound = generate::valid(&mut random);
+        let mut encoder = bundle::Encoder::default();
+        encoder.bundle(&sound);
+        for (at, mark) in &encoder.marks {
+            if *mark == bundle::Mark::Kind {
+                kinds[usize::from(encoder.bytes[*at])] = true;
+            }
+        }
+        let tree = read(&encoder.bytes).expect("a sound bundle");
+        assert_eq!(encode(&tree).unwrap(), encoder.bytes);
+        let plain = show(&tree, &Names::default());
+        assert_eq!(assemble(&plain), encoder.bytes, "{plain}");
+        let named = show(&tree, &some_names(&mut random));
+        assert_eq!(assemble(&named), encoder.bytes, "{named}");
+        let parsed = parse(&named).unwrap();
+        assert_eq!(show(&parsed.bundle, &parsed.names), named);
+    }
+    let all = (0x01..=0x0E).chain(0x10..=0x27).chain(0x30..=0x3B);
+    let all = all.chain(0x40..=0x45).chain(0x50..=0x53).chain(0x60..=0x62);
+    for kind in all {
+        assert!(kinds[kind], "no record of kind {kind:02X} was met");
+    }
+}
+
+#[test]
+fn refusals_are_the_oracle_s() {
+    let mut random = Random::new(2);
+    let mut seen = [0; 9];
+    for _ in 0..ROUNDS * 3 {
+        let bytes = damage::damaged(&mut random);
+        let expected = reader::read(&bytes).err();
+        let found = read(&bytes).err().map(|fault| {
+            assert!(fault.position <= bytes.len());
+            fault.refusal.number()
+        });
+        seen[usize::from(expected.unwrap_or(0))] += 1;
+        match expected {
+            Some(bundle::REFERENCE_CYCLE) => assert_eq!(found, None),
+            _ => assert_eq!(found, expected, "{bytes:02X?}"),
+        }
+    }
+    assert!(seen.iter().all(|count| *count > 10), "{seen:?}");
+}
+
+#[test]
+fn every_answer_of_the_library_can_be_explained() {
+    let mut random = Random::new(3);
+    for round in 0..ROUNDS {
+        let bytes = match round % 3 {
+            0 => damage::damaged(&mut random),
+            _ => bundle::encode(&generate::small(&mut random)),
+        };
+        let answer = layout::report_vec(&bytes);
+        let answer = answer.unwrap_or_else(|refusal| vec![0x7E, refusal.number()]);
+        let report = report::read(&answer).expect("a report");
+        let source = Source {
+            names: some_names(&mut random),
+            lines: Vec::new(),
+        };
+        let words = explain(&bytes, &report, &source).unwrap_or_else(|error| panic!("{error}"));
+        assert!(!words.contains('?'), "{words}");
+    }
+}
+
+#[test]
+fn damaged_texts_get_a_place() {
+    let mut random = Random::new(4);
+    let signs: Vec<char> = "{}()[]:=,.+-*/%&|^<>~!# \n0u8ajé\"".chars().collect();
+    let mut faults = 0;
+    for _ in 0..ROUNDS {
+        let tree = read(&bundle::encode(&generate::small(&mut random))).expect("sound");
+        let text = show(&tree, &some_names(&mut random));
+        let mut letters: Vec<char> = text.chars().collect();
+        for _ in 0..random.between(1, 3) {
+            let at = random.below(letters.len());
+            match random.below(3) {
+                0 => letters[at] = random.pick(&signs),
+                1 => letters.insert(at, random.pick(&signs)),
+                _ if letters.len() > 1 => drop(letters.remove(at)),
+                _ => {}
+            }
+        }
+        let damaged: String = letters.into_iter().collect();
+        if let Err(error) = parse(&damaged) {
+            faults += 1;
+            let lines = damaged.split('\n').count();
+            assert!(
+                (1..=lines).contains(&error.place.line),
+                "{error}\n{damaged}"
+            );
+        }
+    }
+    assert!(faults > ROUNDS / 3, "{faults}");
+}
