@@ -556,7 +556,12 @@ fn answer_for(found: Found, size: usize) -> bundle::Answer
 }
 
 // The chain from `from` to `to` over the edges of a bundle, into the first places of `list`.
-pub fn find_chain(bytes: &[u8], from: u16, to: u16, list: &mut [u16]) -> bundle::Answer
+pub fn find_layout_dependency_chain(
+    bytes: &[u8],
+    from: u16,
+    to: u16,
+    list: &mut [u16],
+) -> bundle::Answer
     ensures { λ r. ⌜ Call (chaining from to (now (bytes .entry))) (now (list .entry)) (now (list .exit)) (answerMeant r) ⌝ }
 {
     let mut places = [0u16; 256];

@@ -56,7 +56,7 @@ pub extern "C" fn layout_chain(
 ) -> u8
     ensures { λ r. ⌜ CallInC (chaining from to (now (bundle .entry))) (now (list .entry)) (now (list .exit)) (now (written .entry)) (now (written .exit)) r ⌝ }
 {
-    let answer = chain::find_chain(bundle, from, to, list);
+    let answer = chain::find_layout_dependency_chain(bundle, from, to, list);
     *written = length_out(answer, *written);
     code(answer)
 }

@@ -1,11 +1,11 @@
--- `chain::find_chain` meets its contract: what the bytes are refused for, or what was found for the bundle that they are.
+-- `chain::find_layout_dependency_chain` meets its contract: what the bytes are refused for, or what was found for the bundle that they are.
 use Rattle.bundle.proofs.AnswerLaws.{opened-layout, opened-refused}
 use Rattle.meaning.specs.Due.{chaining}
 use Rattle.chain.proofs.Called.{called, turned-down}
 use native.Mathlib.Omega.{arith}
 use borrow.Author.Needs.{needs}
-use Rattle.chain.proofs.find_chain.Statement.{statement}
-use Rattle.chain.proofs.find_chain.Tie as tie
+use Rattle.chain.proofs.find_layout_dependency_chain.Statement.{statement}
+use Rattle.chain.proofs.find_layout_dependency_chain.Tie as tie
 
 open-requires : tie.Need-open-requires
 open-requires c κs = search needs
@@ -35,8 +35,8 @@ returns-2 : tie.Need-returns-2
 unfolding chaining
 returns-2 c = turned-down _ (opened-refused _ _ _ _ (c .before .before .before .«open» .ensures) (c .before .opening2 .given .1) _)
 
-pub find-chain-spec : {M : Type 1} → statement M
-find-chain-spec =
+pub find-layout-dependency-chain-spec : {M : Type 1} → statement M
+find-layout-dependency-chain-spec =
     tie.close
     (tie.spec
     open-requires
