@@ -17,7 +17,8 @@ use Rattle.meaning.specs.Calls.{Answer, result, refusal, refusedWith}
 use Rattle.meaning.specs.Writing.{Field, numeric, named, most, fault, fieldItems, bodyItems, firstFault, fieldsOf, unless, recordDue, writing}
 use Rattle.meaning.specs.Within.{Fits, Each}
 use Rattle.meaning.proofs.KindTable.{past, side}
-use Rattle.meaning.proofs.Written.{nameBytes, name-two, bytes-append, number-written, both-written}
+use Rattle.names.proofs.Items.{bytes-append}
+use Rattle.meaning.proofs.Written.{nameBytes, name-two, number-written, both-written}
 use Rattle.meaning.proofs.ExprSpans.{all-at}
 use Rattle.writer.specs.declared.Shape.{Shape}
 use Rattle.writer.specs.declared.Shaped.{Shaped}

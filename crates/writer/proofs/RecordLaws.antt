@@ -13,7 +13,7 @@ use Rattle.meaning.specs.Encoding.{numberItems}
 use Rattle.meaning.specs.Calls.{Outcome, result, refusal, accepted, refusedWith, answerOf, placesAfter}
 use Rattle.meaning.specs.Writing.{Field, most, fault, bodyItems, firstFault, unless, recordDue}
 use Rattle.meaning.proofs.WritingLaws.{fits}
-use Rattle.meaning.proofs.Written.{bytes-append}
+use Rattle.names.proofs.Items.{bytes-append}
 use Rattle.writer.specs.declared.Shape.{Shape}
 use Rattle.writer.specs.Shapes.{width, fieldOf, shapeFields, sizeOf}
 use Rattle.writer.specs.Places.{CallFrom}
