@@ -31,7 +31,7 @@ pub fn cases(seed: u64, count: usize) -> Vec<Case> {
         list.add(bytes);
     }
     while list.missing() {
-        let bytes = candidate(&mut random, 120);
+        let bytes = candidate(&mut random, 600);
         if list.helps(&bytes) {
             list.add(bytes);
         }
