@@ -1,7 +1,13 @@
+pub mod AnswerLaws
+pub mod Bounds
+pub mod CircleLaws
 pub mod DefinitionLaws
 pub mod ExprLaws
 pub mod Forms
 pub mod HeadLaws
+pub mod LayoutLaws
+pub mod LeadLaws
+pub mod LookupLaws
 pub mod RecordLaws
 pub mod Steps
 pub mod Trees

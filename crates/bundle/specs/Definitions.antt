@@ -1,22 +1,16 @@
--- The types and definitions of accepted bytes, and the first definition of a name.
-use Prim.Native.Nat.{ℕ}
-use mathlib.Core.Bool.{cond}
+-- The trees at positions of accepted bytes, and the places of the definitions and edges of a bundle.
+use Prim.Native.Nat.{ℕ, _+_, _-_, _*_, _≤_, _<_}
 use mathlib.Core.List.{List, [], _∷_}
-use mathlib.Core.Option.{Option, none as nowhere, some}
+use mathlib.Core.Option.{some, Option}
 use mathlib.Core.Path.{_≡_}
-use lib.Dec.{eqb}
-use Rattle.bundle.specs.declared.Found.{Found}
-use Rattle.bundle.specs.declared.Found.the-variants.{At, Nowhere}
-use Rattle.meaning.specs.Tree.{Ty, primitive, Members, none, Definition}
-use Rattle.meaning.specs.Reader.{many}
+use lib.ListN.{length, getD, getElem?}
+use Rattle.bundle.specs.declared.Step.{Step}
+use Rattle.meaning.specs.Tree.{Ty, primitive, Members, none, Definition, Edge, Bundle}
+use Rattle.meaning.specs.Limits.{definitionLimit, depthLimit}
+use Rattle.meaning.specs.Reader.{many, little}
 use Rattle.meaning.specs.ReadType.{readTy, readMembers, Group}
-use Rattle.meaning.specs.ReadBundle.{readDefinition}
-use Rattle.bundle.specs.View.{Reads, valueOr}
-
--- the type of the first definition of name x
-unfoldable pub firstType : ℕ → List Definition → Option Ty
-firstType x [] = nowhere
-firstType x (d ∷ ds) = cond (eqb (d .name) x) (some (d .type)) (firstType x ds)
+use Rattle.meaning.specs.ReadBundle.{readDefinition, readEdge, readBundle}
+use Rattle.bundle.specs.View.{stepOf, Reads, valueOr}
 
 -- the type at a position, where d levels are left
 abbrev pub typeAt : ℕ → List ℕ → ℕ → Ty
@@ -34,9 +28,44 @@ zeroGroup = record { attributes = record { packed = 0; aligned = 0 }; members = 
 abbrev pub definitionsAt : ℕ → List ℕ → ℕ → List Definition
 definitionsAt n s at = valueOr [] (many _∷_ [] readDefinition n s at)
 
--- the answer is the position of a type t that was accepted, or says that there is none
-abbrev pub Leads : List ℕ → Option Ty → Found → Type 0
-Leads s (some t) (At p) = Reads (readTy 24 s p) × (typeAt 24 s p ≡ t)
-Leads s nowhere (At p) = ⊥
-Leads s (some t) Nowhere = ⊥
-Leads s nowhere Nowhere = Unit {0}
+-- the n edges at a position
+abbrev pub edgesAt : ℕ → List ℕ → ℕ → List Edge
+edgesAt n s at = valueOr [] (many _∷_ [] readEdge n s at)
+
+-- the bundle of a byte string, and an empty one where none was read
+unfoldable pub bundleOf : List ℕ → Bundle
+bundleOf s = valueOr (record { current = 0; definitions = []; edges = [] }) (readBundle s)
+
+-- the definition whose type is at p: its name is the number before
+unfoldable pub definitionAt : List ℕ → ℕ → Definition
+definitionAt s p = record { name = little s (p - 2) 2; type = typeAt depthLimit s p }
+
+-- the type at p was read, and o is its definition
+pub record Placed (s : List ℕ) (o : Option Definition) (p : ℕ) : Type 0 where
+  pub behind : 3 ≤ p
+  pub reads : Reads (readTy depthLimit s p)
+  pub is : o ≡ some (definitionAt s p)
+
+-- `places` has the position of each definition's type
+pub record Places (s : List ℕ) (ds : List Definition) (places : List ℕ) : Type 0 where
+  pub room : length ds ≤ definitionLimit
+  pub each : (i : ℕ) → i < length ds → Placed s (getElem? ds i) (getD places i 0)
+
+-- n definitions were read at `at`, and `places` has their types; r is where they end
+pub record DefinitionsAt (s : List ℕ) (at n : ℕ) (places : List ℕ) (r : Step) : Type 0 where
+  pub step : r ≡ stepOf (many _∷_ [] readDefinition n s at)
+  pub placed : Reads (many _∷_ [] readDefinition n s at) → Places s (definitionsAt n s at) places
+
+-- `places` has the n definitions of the bundle
+pub record Table (s : List ℕ) (n : ℕ) (places : List ℕ) : Type 0 where
+  pub count : n ≡ length (bundleOf s .definitions)
+  pub placed : Places s (bundleOf s .definitions) places
+
+-- the edge whose record starts at p
+unfoldable pub edgeAt : List ℕ → ℕ → Edge
+edgeAt s p = record { from = little s (p + 1) 2; to = little s (p + 3) 2; kind = getD s (p + 5) 0 }
+
+-- the edges stand one after the other from `at` on, to the end of the bytes
+pub record EdgesFrom (s : List ℕ) (es : List Edge) (at : ℕ) : Type 0 where
+  pub each : (i : ℕ) → i < length es → getElem? es i ≡ some (edgeAt s (at + 6 * i))
+  pub end : at + 6 * length es ≡ length s

@@ -1,3 +1,5 @@
+pub mod Circles
 pub mod Definitions
 pub mod Expressions
+pub mod Opened
 pub mod View

@@ -1,6 +1,6 @@
 // Reads a bundle of layout definitions: accepts exactly the byte strings that the format allows.
 ghost use mathlib.Core.Path.{_≡_};
-ghost use Prim.Native.Nat.{_+_, _≤_};
+ghost use Prim.Native.Nat.{_+_, _≤_, _<_};
 ghost use lib.ListN.{length};
 ghost use Rattle.meaning.specs.Kinds.{formOf};
 ghost use Rattle.meaning.specs.ReadExpr.{body, readExpr};
@@ -9,11 +9,19 @@ ghost use Rattle.bundle.specs.View.{formMeant, stepOf, countOf};
 ghost use Rattle.meaning.specs.ReadType.{readTy, readMember, readMembers, readGroup, readEnum, readArray};
 ghost use Rattle.meaning.specs.ReadBundle.{opening, readDefinition, readEdge, readHeader, readEdges, readRest, readBundle};
 ghost use Rattle.bundle.specs.View.{countsOf};
+ghost use Rattle.bundle.specs.declared.Counts.the-variants.{Each};
+ghost use Rattle.bundle.specs.declared.Step.the-variants.{Next};
 ghost use Rattle.meaning.specs.Reader.{many};
 ghost use mathlib.Core.List.{_∷_, []};
-ghost use Rattle.bundle.specs.View.{Reads};
-ghost use Rattle.bundle.specs.Definitions.{firstType, definitionsAt, Leads};
+ghost use Rattle.bundle.specs.View.{Reads, valueOr};
+ghost use Rattle.meaning.specs.Tree.{primitive};
+ghost use Rattle.bundle.specs.Definitions.{typeAt, membersAt, zeroGroup, bundleOf, DefinitionsAt, Table};
+ghost use Rattle.bundle.specs.Circles.{typeLeads, membersLead, Marks, Walked, Decided};
+ghost use Rattle.bundle.specs.Opened.{IsRead, IsOpened, answerMeant};
 ghost use Rattle.meaning.specs.Reader.{little};
+ghost use Rattle.meaning.specs.Lookup.{definitionOf};
+ghost use Rattle.meaning.specs.Circle.{circles, resolve};
+ghost use Rattle.meaning.specs.Calls.{acceptance, answerOf};
 
 // What an expression's kind byte fixes: its body and what follows. A literal has its body length, a field reference its
 // count of names.
@@ -65,10 +73,24 @@ pub enum Counts {
     Bad(u8),
 }
 
-// The position of a definition's type.
-pub enum Found {
-    At(usize),
-    Nowhere,
+// The counts of a bundle, the position of its first edge and its current name.
+pub struct Layout {
+    pub definitions: usize,
+    pub edges: usize,
+    pub edges_at: usize,
+    pub current: u16,
+}
+
+// The layout of a bundle, or the number of the fault for which its bytes are refused.
+pub enum Opening {
+    Opened(Layout),
+    Refused(u8),
+}
+
+// The answer to a call: the length of its result, or the number of a refusal.
+pub enum Answer {
+    Accepted(usize),
+    Refused(u8),
 }
 
 const WIDTHS: [u8; 8] = [8, 4, 2, 1, 8, 4, 2, 1];
@@ -377,18 +399,20 @@ pub fn header_at(s: &[u8]) -> Counts
     }
 }
 
-// The end of the `count` definitions at `at`.
-fn definitions_at(s: &[u8], at: usize, count: usize) -> Step
-    ensures { λ r. ⌜ r ≡ stepOf (many _∷_ [] readDefinition count (now (s .entry)) at) ⌝ }
+// The end of the `count` definitions at `at`. `places` gets the position of each one's type.
+fn definitions_at(s: &[u8], at: usize, count: usize, places: &mut [u16; 256]) -> Step
+    requires { ⌜ (length (now s) ≤ 32768) × (count ≤ 256) × (length (now places) ≡ 256) ⌝ }
+    ensures { λ r. ⌜ DefinitionsAt (now (s .entry)) at count (now (places .exit)) r ⌝ }
 {
     let mut next = at;
-    let mut left = count;
-    while 0 < left {
+    let mut i = 0;
+    while i < count {
         let step = definition_at(s, next);
         match step {
             Step::Next(after) => {
+                places[i] = (next + 3) as u16;
                 next = after;
-                left -= 1;
+                i += 1;
             }
             Step::Refused(k) => return Step::Refused(k),
         }
@@ -432,52 +456,288 @@ fn edges_end(s: &[u8], at: usize, count: usize) -> Step
     }
 }
 
-// The end of the definitions and edges at `at`, which must be the end of the bytes.
-fn rest_at(s: &[u8], at: usize, definitions: usize, edges: usize) -> Step
-    ensures { λ r. ⌜ r ≡ stepOf (readRest definitions edges (now (s .entry)) at) ⌝ }
+// The layout of the bundle that the bytes are, whose header has these counts and ends at `at`, or the number of the first fault.
+fn rest_at(
+    s: &[u8],
+    at: usize,
+    definitions: usize,
+    edges: usize,
+    places: &mut [u16; 256],
+) -> Opening
+    requires { ⌜ (length (now s) ≤ 32768) × (length (now places) ≡ 256) × (Each definitions edges at ≡ countsOf (readHeader (now s) 0)) ⌝ }
+    ensures { λ r. ⌜ IsRead (now (s .entry)) (now (places .exit)) r ⌝ }
 {
-    let step = definitions_at(s, at, definitions);
+    let step = definitions_at(s, at, definitions, places);
     match step {
-        Step::Next(next) => edges_end(s, next, edges),
-        Step::Refused(k) => Step::Refused(k),
+        Step::Next(next) => {
+            let end = edges_end(s, next, edges);
+            match end {
+                Step::Next(_) => Opening::Opened(Layout {
+                    definitions: definitions,
+                    edges: edges,
+                    edges_at: next,
+                    current: u16_at(s, 5),
+                }),
+                Step::Refused(k) => Opening::Refused(k),
+            }
+        }
+        Step::Refused(k) => Opening::Refused(k),
     }
 }
 
-// The end of the bundle that the bytes are, or the number of their first fault.
-pub fn bundle_at(s: &[u8]) -> Step
-    ensures { λ r. ⌜ r ≡ stepOf (readBundle (now (s .entry))) ⌝ }
+// The layout of the bundle that the bytes are, or the number of their first fault; circles are not looked for.
+fn bundle_at(s: &[u8], places: &mut [u16; 256]) -> Opening
+    requires { ⌜ length (now places) ≡ 256 ⌝ }
+    ensures { λ r. ⌜ IsRead (now (s .entry)) (now (places .exit)) r ⌝ }
 {
     if 32768 < s.len() {
-        return Step::Refused(1);
+        return Opening::Refused(1);
     }
     let header = header_at(s);
     match header {
-        Counts::Each(definitions, edges, next) => rest_at(s, next, definitions, edges),
-        Counts::Bad(k) => Step::Refused(k),
+        Counts::Each(definitions, edges, next) => rest_at(s, next, definitions, edges, places),
+        Counts::Bad(k) => Opening::Refused(k),
     }
 }
 
-// The type of the first definition of a name among the `count` definitions that were accepted at `at`.
-pub fn find_definition(s: &[u8], at: usize, count: usize, name: u16) -> Found
-    requires { ⌜ Reads (many _∷_ [] readDefinition count (now s) at) ⌝ }
-    ensures { λ r. ⌜ Leads (now (s .entry)) (firstType name (definitionsAt count (now (s .entry)) at)) r ⌝ }
+// The number of the first definition of a name, and the count of definitions where there is none.
+pub fn definition_of(s: &[u8], places: &[u16; 256], count: usize, name: u16) -> usize
+    requires { ⌜ Table (now s) count (now places) ⌝ }
+    ensures { λ r. ⌜ r ≡ definitionOf (bundleOf (now (s .entry))) name ⌝ }
+{
+    let mut i = 0;
+    while i < count {
+        let at = places[i] as usize;
+        if u16_at(s, at - 2) == name {
+            return i;
+        }
+        i += 1;
+    }
+    i
+}
+
+// Whether every sequence of TypeRefs from definition `i` ends. `marks` has 1 for a definition on the way to this one, 2 for one
+// that is walked, 0 for another.
+fn walk_definition(
+    s: &[u8],
+    places: &[u16; 256],
+    count: usize,
+    marks: &mut [u8; 256],
+    i: usize,
+) -> bool
+    requires { ⌜ Table (now s) count (now places) × (i < count) × Marks (bundleOf (now s)) (i ∷ []) (now marks) ⌝ }
+    ensures { λ r. ⌜ Decided (bundleOf (now (s .entry))) (i ∷ []) (now (marks .entry)) (now (marks .exit)) r ⌝ }
+{
+    let mark = marks[i];
+    if 1 < mark {
+        return true;
+    }
+    if mark == 1 {
+        return false;
+    }
+    marks[i] = 1;
+    let at = places[i] as usize;
+    let step = walk_type(s, places, count, marks, at, 24);
+    match step {
+        Step::Next(_) => {
+            marks[i] = 2;
+            true
+        }
+        Step::Refused(_) => false,
+    }
+}
+
+// The same for the definition of the name at `at`, if there is one: the end of the name, or 8.
+fn walk_name(s: &[u8], places: &[u16; 256], count: usize, marks: &mut [u8; 256], at: usize) -> Step
+    requires { ⌜ Table (now s) count (now places) × (at + 2 ≤ length (now s)) × Marks (bundleOf (now s)) (resolve (bundleOf (now s)) (little (now s) at 2 ∷ [])) (now marks) ⌝ }
+    ensures { λ r. ⌜ Walked (bundleOf (now (s .entry))) (resolve (bundleOf (now (s .entry))) (little (now (s .entry)) at 2 ∷ [])) (now (marks .entry)) (now (marks .exit)) (Next (at + 2)) r ⌝ }
+{
+    let name = u16_at(s, at);
+    let i = definition_of(s, places, count, name);
+    if count <= i {
+        return Step::Next(at + 2);
+    }
+    if walk_definition(s, places, count, marks, i) {
+        Step::Next(at + 2)
+    } else {
+        Step::Refused(8)
+    }
+}
+
+// The same for all names inside the type that was read at `at`: the end of the type, or 8.
+fn walk_type(
+    s: &[u8],
+    places: &[u16; 256],
+    count: usize,
+    marks: &mut [u8; 256],
+    at: usize,
+    depth: usize,
+) -> Step
+    requires { ⌜ Table (now s) count (now places) × Reads (readTy depth (now s) at) × Marks (bundleOf (now s)) (typeLeads (bundleOf (now s)) (typeAt depth (now s) at)) (now marks) ⌝ }
+    ensures { λ r. ⌜ Walked (bundleOf (now (s .entry))) (typeLeads (bundleOf (now (s .entry))) (typeAt depth (now (s .entry)) at)) (now (marks .entry)) (now (marks .exit)) (stepOf (readTy depth (now (s .entry)) at)) r ⌝ }
+{
+    let kind = s[at];
+    let form = form_of(kind);
+    let Form::OfType(t) = form else {
+        return Step::Refused(8);
+    };
+    let body = at + 1;
+    match t {
+        TypeForm::Primitive => Step::Next(body),
+        TypeForm::TypeRef => walk_name(s, places, count, marks, body),
+        TypeForm::Struct => walk_group(s, places, count, marks, body, depth - 1, 0x50),
+        TypeForm::Union => walk_group(s, places, count, marks, body, depth - 1, 0x51),
+        TypeForm::Enum => walk_enum(s, places, count, marks, body, depth - 1),
+        TypeForm::Array => walk_array(s, places, count, marks, body, depth - 1),
+        TypeForm::SizeUnion => walk_group(s, places, count, marks, body, depth - 1, 0x53),
+    }
+}
+
+// The same for the struct or union whose body is at `at` and whose members are of kind `kind`.
+fn walk_group(
+    s: &[u8],
+    places: &[u16; 256],
+    count: usize,
+    marks: &mut [u8; 256],
+    at: usize,
+    depth: usize,
+    kind: u8,
+) -> Step
+    requires { ⌜ (at ≤ length (now s)) × Table (now s) count (now places) × Reads (readGroup (readTy depth) kind (now s) at) × Marks (bundleOf (now s)) (membersLead (bundleOf (now s)) (valueOr zeroGroup (readGroup (readTy depth) kind (now s) at) .members)) (now marks) ⌝ }
+    ensures { λ r. ⌜ Walked (bundleOf (now (s .entry))) (membersLead (bundleOf (now (s .entry))) (valueOr zeroGroup (readGroup (readTy depth) kind (now (s .entry)) at) .members)) (now (marks .entry)) (now (marks .exit)) (stepOf (readGroup (readTy depth) kind (now (s .entry)) at)) r ⌝ }
+{
+    let head = count_at(s, at);
+    match head {
+        Count::Of(n, next) => walk_members(s, places, count, marks, next, depth, kind, n),
+        Count::Wrong(_) => Step::Refused(8),
+    }
+}
+
+// The same for the enum whose body is at `at`.
+fn walk_enum(
+    s: &[u8],
+    places: &[u16; 256],
+    count: usize,
+    marks: &mut [u8; 256],
+    at: usize,
+    depth: usize,
+) -> Step
+    requires { ⌜ (at ≤ length (now s)) × Table (now s) count (now places) × Reads (readEnum (readExpr depth) (readTy depth) (now s) at) × Marks (bundleOf (now s)) (typeLeads (bundleOf (now s)) (valueOr (primitive 0) (readEnum (readExpr depth) (readTy depth) (now s) at))) (now marks) ⌝ }
+    ensures { λ r. ⌜ Walked (bundleOf (now (s .entry))) (typeLeads (bundleOf (now (s .entry))) (valueOr (primitive 0) (readEnum (readExpr depth) (readTy depth) (now (s .entry)) at))) (now (marks .entry)) (now (marks .exit)) (stepOf (readEnum (readExpr depth) (readTy depth) (now (s .entry)) at)) r ⌝ }
+{
+    let head = count_at(s, at);
+    match head {
+        Count::Of(n, next) => {
+            let tag = expr_at(s, next, depth);
+            match tag {
+                Step::Next(after) => walk_members(s, places, count, marks, after, depth, 0x52, n),
+                Step::Refused(_) => Step::Refused(8),
+            }
+        }
+        Count::Wrong(_) => Step::Refused(8),
+    }
+}
+
+// The same for the array whose body is at `at`.
+fn walk_array(
+    s: &[u8],
+    places: &[u16; 256],
+    count: usize,
+    marks: &mut [u8; 256],
+    at: usize,
+    depth: usize,
+) -> Step
+    requires { ⌜ (at ≤ length (now s)) × Table (now s) count (now places) × Reads (readArray (readExpr depth) (readTy depth) (now s) at) × Marks (bundleOf (now s)) (typeLeads (bundleOf (now s)) (valueOr (primitive 0) (readArray (readExpr depth) (readTy depth) (now s) at))) (now marks) ⌝ }
+    ensures { λ r. ⌜ Walked (bundleOf (now (s .entry))) (typeLeads (bundleOf (now (s .entry))) (valueOr (primitive 0) (readArray (readExpr depth) (readTy depth) (now (s .entry)) at))) (now (marks .entry)) (now (marks .exit)) (stepOf (readArray (readExpr depth) (readTy depth) (now (s .entry)) at)) r ⌝ }
+{
+    let head = array_head_at(s, at);
+    match head {
+        Step::Next(next) => {
+            let size = expr_at(s, next, depth);
+            match size {
+                Step::Next(after) => walk_type(s, places, count, marks, after, depth),
+                Step::Refused(_) => Step::Refused(8),
+            }
+        }
+        Step::Refused(_) => Step::Refused(8),
+    }
+}
+
+// The same for the n members of kind `kind` at `at`.
+fn walk_members(
+    s: &[u8],
+    places: &[u16; 256],
+    count: usize,
+    marks: &mut [u8; 256],
+    at: usize,
+    depth: usize,
+    kind: u8,
+    n: usize,
+) -> Step
+    requires { ⌜ Table (now s) count (now places) × Reads (readMembers (readTy depth) kind n (now s) at) × Marks (bundleOf (now s)) (membersLead (bundleOf (now s)) (membersAt depth kind n (now s) at)) (now marks) ⌝ }
+    ensures { λ r. ⌜ Walked (bundleOf (now (s .entry))) (membersLead (bundleOf (now (s .entry))) (membersAt depth kind n (now (s .entry)) at)) (now (marks .entry)) (now (marks .exit)) (stepOf (readMembers (readTy depth) kind n (now (s .entry)) at)) r ⌝ }
 {
     let mut next = at;
-    let mut left = count;
+    let mut left = n;
     while 0 < left {
-        let body = next + 1;
-        let found = u16_at(s, body);
-        if found == name {
-            return Found::At(body + 2);
-        }
-        let step = type_at(s, body + 2, 24);
-        match step {
-            Step::Next(after) => {
-                next = after;
-                left -= 1;
-            }
-            Step::Refused(_) => return Found::Nowhere,
+        let head = member_head_at(s, next, kind);
+        let Step::Next(body) = head else {
+            return Step::Refused(8);
+        };
+        let step = walk_type(s, places, count, marks, body, depth);
+        let Step::Next(after) = step else {
+            return Step::Refused(8);
+        };
+        next = after;
+        left -= 1;
+    }
+    Step::Next(next)
+}
+
+// Whether some definition leads back to itself.
+fn circle(s: &[u8], places: &[u16; 256], count: usize) -> bool
+    requires { ⌜ Table (now s) count (now places) ⌝ }
+    ensures { λ r. ⌜ r ≡ circles (bundleOf (now (s .entry))) ⌝ }
+{
+    let mut marks = [0u8; 256];
+    let mut i = 0;
+    while i < count {
+        if walk_definition(s, places, count, &mut marks, i) {
+            i += 1;
+        } else {
+            return true;
         }
     }
-    Found::Nowhere
+    false
+}
+
+// The layout of the bundle that the bytes are, and in `places` the position of each definition's type; or the number for which the
+// bytes are refused.
+pub fn open(bundle: &[u8], places: &mut [u16; 256]) -> Opening
+    ensures { λ r. ⌜ IsOpened (now (bundle .entry)) (now (places .exit)) r ⌝ }
+{
+    *places = [0u16; 256];
+    let opening = bundle_at(bundle, places);
+    match opening {
+        Opening::Opened(layout) => {
+            if circle(bundle, places, layout.definitions) {
+                Opening::Refused(8)
+            } else {
+                Opening::Opened(layout)
+            }
+        }
+        Opening::Refused(k) => Opening::Refused(k),
+    }
+}
+
+// Whether the bytes are accepted: a result of no length, or the number for which they are refused.
+pub fn accept(bundle: &[u8]) -> Answer
+    ensures { λ r. ⌜ answerMeant r ≡ answerOf (acceptance (now (bundle .entry))) 0 ⌝ }
+{
+    let mut places = [0u16; 256];
+    let opening = open(bundle, &mut places);
+    match opening {
+        Opening::Opened(_) => Answer::Accepted(0),
+        Opening::Refused(k) => Answer::Refused(k),
+    }
 }

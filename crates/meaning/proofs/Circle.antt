@@ -154,7 +154,7 @@ module _ (b : Bundle) where
       flip false e = refl
 
   -- only a definition leads anywhere
-  leads-from : {i j : ℕ} → Leads b i j → i < count b
+  pub leads-from : {i j : ℕ} → Leads b i j → i < count b
   leads-from {i} (direct m) = first-below i m
   leads-from {i} (onward m l) = first-below i m
 

@@ -3,10 +3,11 @@ use borrow.Author.Needs.{needs}
 use Rattle.bundle.proofs.bundle_at.Statement.{statement}
 use Rattle.bundle.proofs.bundle_at.Tie as tie
 use mathlib.Core.Path.{sym, _∙_}
-use Rattle.bundle.proofs.RecordLaws.{bundle-overlong, bundle-ends, bundle-bad}
+use Rattle.bundle.proofs.LayoutLaws.{refused-is}
+use Rattle.bundle.proofs.RecordLaws.{bundle-overlong, bundle-bad}
 
 returns : tie.Need-returns
-returns c = sym (bundle-overlong _ (c .if1 .taken))
+returns c = refused-is _ _ (bundle-overlong _ (c .if1 .taken))
 
 header-at-requires : tie.Need-header-at-requires
 header-at-requires c κs = search needs
@@ -15,16 +16,16 @@ enum-known-header : tie.Need-enum-known-header
 enum-known-header c = search needs
 
 rest-at-requires : tie.Need-rest-at-requires
-rest-at-requires c κs = search needs
+rest-at-requires c κs = (c .before .before .before .before .before .if1 .left, c .before .before .before .before .before .before .before .pre, sym (c .before .before .header .given .1) ∙ c .before .before .before .before .header-at .ensures)
 
 enum-known-header-2 : tie.Need-enum-known-header-2
 enum-known-header-2 c = search needs
 
 returns-2 : tie.Need-returns-2
-returns-2 c = c .rest-at .ensures ∙ sym (bundle-ends _ _ _ _ (c .before .before .before .before .before .if1 .left) (sym (c .before .before .header .given .1) ∙ c .before .before .before .before .header-at .ensures))
+returns-2 c = c .rest-at .ensures
 
 returns-3 : tie.Need-returns-3
-returns-3 c = sym (bundle-bad _ _ (c .before .before .before .before .if1 .left) (sym (c .before .header2 .given .1) ∙ c .before .before .before .header-at .ensures))
+returns-3 c = refused-is _ _ (bundle-bad _ _ (c .before .before .before .before .if1 .left) (sym (c .before .header2 .given .1) ∙ c .before .before .before .header-at .ensures))
 
 pub bundle-at-spec : {M : Type 1} → statement M
 bundle-at-spec =

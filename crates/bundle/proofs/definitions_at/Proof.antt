@@ -1,23 +1,20 @@
--- `bundle::definitions_at` meets its contract. The invariant: what is left, read from here, ends as the whole does. Assumes nothing.
+-- `bundle::definitions_at` meets its contract. The invariant: the first definitions are placed, and what is left ends as the whole does. Assumes nothing.
 use Rattle.bundle.proofs.definitions_at.Statement.{statement}
 use Rattle.bundle.proofs.definitions_at.Tie as tie
 use borrow.Author.Needs.{needs}
 use native.Mathlib.Omega.{arith}
-use mathlib.Core.Path.{_≡_, sym, _∙_}
-use mathlib.Core.List.{[], _∷_}
-use Rattle.meaning.specs.ReadBundle.{readDefinition}
-use Rattle.bundle.specs.View.{stepOf}
-use Rattle.meaning.specs.Reader.{many}
-use Rattle.bundle.proofs.Steps.{many-none, many-more, many-refused}
+use Prim.Native.Nat.{_-_}
+use mathlib.Core.Path.{sym, _∙_}
+use Rattle.bundle.proofs.DefinitionLaws.{Placing, placing-start, placing-there, placing-next, placing-refused, placing-end}
 
 abbrev Inv-loop : tie.InvT-loop
-Inv-loop s at count next₀ left₀ next left = stepOf (many _∷_ [] readDefinition left s next) ≡ stepOf (many _∷_ [] readDefinition count s at)
+Inv-loop s at count places₀ next₀ i₀ places next i = Placing s at count places i next
 
 abbrev μ-loop : tie.MeasureT-loop
-μ-loop s at count next₀ left₀ next left = left
+μ-loop s at count places₀ next₀ i₀ places next i = count - i
 
 loop-holds : tie.Need-loop-holds Inv-loop μ-loop
-loop-holds c = search needs
+loop-holds c = placing-start _ _ _ _ (c .before .pre .2)
 
 definition-at-requires : tie.Need-definition-at-requires Inv-loop μ-loop
 definition-at-requires c κs = search needs
@@ -25,23 +22,35 @@ definition-at-requires c κs = search needs
 enum-known-step : tie.Need-enum-known-step Inv-loop μ-loop
 enum-known-step c = search needs
 
-sub-left : tie.Need-sub-left Inv-loop μ-loop
-sub-left c = search needs
+add-places : tie.Need-add-places Inv-loop μ-loop
+add-places c = omega (arith, placing-there (c .before .before .before .before .before .loop .inv) (c .before .before .before .before .loop-test .taken) _ (sym (c .before .step .given .1) ∙ c .before .before .before .definition-at .ensures), c .before .before .before .before .before .before .before .pre .0)
+
+cast-places : tie.Need-cast-places Inv-loop μ-loop
+cast-places c = record { fits = omega (arith, placing-there (c .before .before .before .before .before .loop .inv) (c .before .before .before .before .loop-test .taken) _ (sym (c .before .step .given .1) ∙ c .before .before .before .definition-at .ensures), c .before .before .before .before .before .before .before .pre .0) }
+
+mul-places : tie.Need-mul-places Inv-loop μ-loop
+mul-places c = search needs
+
+element-write-places : tie.Need-element-write-places Inv-loop μ-loop
+element-write-places c = search needs
+
+add-i : tie.Need-add-i Inv-loop μ-loop
+add-i c = search needs
 
 loop-less : tie.Need-loop-less Inv-loop μ-loop
 loop-less c = search needs
 
 loop-again : tie.Need-loop-again Inv-loop μ-loop
-loop-again c = sym (many-more _∷_ [] readDefinition _ _ _ _ (c .before .before .before .before .loop-test .taken) (sym (c .before .step .given .1) ∙ c .before .before .before .definition-at .ensures)) ∙ c .before .before .before .before .before .loop .inv
+loop-again c = placing-next (c .before .before .before .before .before .loop .inv) (c .before .before .before .before .loop-test .taken) (c .before .before .before .before .before .before .before .pre .1) _ (sym (c .before .step .given .1) ∙ c .before .before .before .definition-at .ensures)
 
 enum-known-step-2 : tie.Need-enum-known-step-2 Inv-loop μ-loop
 enum-known-step-2 c = search needs
 
 returns : tie.Need-returns Inv-loop μ-loop
-returns c = sym (many-refused _∷_ [] readDefinition _ _ _ _ (c .before .before .before .before .loop-test .taken) (sym (c .before .step2 .given .1) ∙ c .before .before .before .definition-at .ensures)) ∙ c .before .before .before .before .before .loop .inv
+returns c = placing-refused (c .before .before .before .before .before .loop .inv) (c .before .before .before .before .loop-test .taken) _ (sym (c .before .step2 .given .1) ∙ c .before .before .before .definition-at .ensures)
 
 returns-2 : tie.Need-returns-2 Inv-loop μ-loop
-returns-2 c = sym (many-none _∷_ [] readDefinition _ _ _ (omega arith)) ∙ c .before .loop .inv
+returns-2 c = placing-end (c .before .loop .inv) (omega arith) (c .before .before .before .pre .1)
 
 pub definitions-at-spec : {M : Type 1} → statement M
 definitions-at-spec =
@@ -52,7 +61,11 @@ definitions-at-spec =
     loop-holds
     definition-at-requires
     enum-known-step
-    sub-left
+    add-places
+    cast-places
+    mul-places
+    element-write-places
+    add-i
     loop-less
     loop-again
     enum-known-step-2

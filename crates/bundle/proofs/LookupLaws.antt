@@ -1,0 +1,61 @@
+-- The table of definitions, and the search in it for the first definition of a name.
+use Prim.Native.Nat.{ℕ, zero, suc, _+_, _-_, _≤_, _<_}
+use native.Mathlib.Omega.{arith}
+use mathlib.Core.Option.{some}
+use mathlib.Core.Path.{_≡_, refl, sym, ap, _∙_}
+use mathlib.Core.List.{List, [], _∷_, map}
+use lib.ListN.{length, getD, getElem?, drop, drop-of-length-le}
+use borrow.Author.Tests.{eq-eqb, ne-eqb}
+use Rattle.names.specs.Names.{place}
+use Rattle.meaning.specs.Tree.{Definition, Bundle}
+use Rattle.meaning.specs.Reader.{little}
+use Rattle.meaning.specs.Lookup.{count, definitionOf}
+use Rattle.bundle.specs.Definitions.{bundleOf, definitionAt, Placed, Table}
+use Rattle.bundle.proofs.TypeTrees.{type-there}
+
+-- the list from place i on
+from-place : {A : Type 0} (xs : List A) (i : ℕ) {x : A} → getElem? xs i ≡ some x → drop i xs ≡ x ∷ drop (suc i) xs
+from-place [] zero e = let z : _≡_ {A = ℕ} 0 1 = cc in absurd (omega arith)
+from-place [] (suc i) e = let z : _≡_ {A = ℕ} 0 1 = cc in absurd (omega arith)
+from-place (y ∷ xs) zero e = ap (λ x. x ∷ xs) (let p : y ≡ _ = cc in p)
+from-place (y ∷ xs) (suc i) e = from-place xs i e
+
+-- the name x is not that of the first i definitions
+pub record Sought (b : Bundle) (x i : ℕ) : Type 0 where
+  pub bound : i ≤ count b
+  pub behind : definitionOf b x ≡ i + place (map (λ d. d .name) (drop i (b .definitions))) x
+
+pub sought-start : (b : Bundle) (x : ℕ) → Sought b x 0
+sought-start b x = record { bound = omega arith; behind = omega arith }
+
+module _ {s : List ℕ} {n : ℕ} {places : List ℕ} (t : Table s n places) where
+  -- definition i
+  pub placed-at : (i : ℕ) → i < n → Placed s (getElem? (bundleOf s .definitions) i) (getD places i 0)
+  placed-at i h = t .placed .each i (omega (arith, t .count))
+
+  -- its type stands in the bytes, behind its name
+  pub place-there : (i : ℕ) → i < n → getD places i 0 < length s
+  place-there i h = type-there 24 (getD places i 0) s (placed-at i h .reads)
+
+  module _ {x i : ℕ} (g : Sought (bundleOf s) x i) where
+    pub sought-end : n ≤ i → i ≡ definitionOf (bundleOf s) x
+    sought-end h =
+        sym (g .behind ∙ rw (drop-of-length-le (bundleOf s .definitions) {i = i} (omega (arith, t .count))) (omega arith))
+
+    module _ (h : i < n) where
+      from-here : drop i (bundleOf s .definitions) ≡ definitionAt s (getD places i 0) ∷ drop (suc i) (bundleOf s .definitions)
+      from-here = from-place (bundleOf s .definitions) i (placed-at i h .is)
+
+      pub sought-here : little s (getD places i 0 - 2) 2 ≡ x → i ≡ definitionOf (bundleOf s) x
+      unfolding definitionAt
+      sought-here e =
+          sym (g .behind ∙ rw (from-here, eq-eqb x (little s (getD places i 0 - 2) 2) (sym e)) (omega arith))
+
+      pub sought-next : (little s (getD places i 0 - 2) 2 ≡ x → ⊥) → Sought (bundleOf s) x (i + 1)
+      unfolding definitionAt
+      sought-next ne =
+          let p : i + 1 ≡ suc i = omega arith in
+          record {
+            bound = omega (arith, t .count);
+            behind = g .behind ∙ rw (p, from-here, ne-eqb x (little s (getD places i 0 - 2) 2) (λ e. ne (sym e))) (omega arith);
+          }
