@@ -1,5 +1,6 @@
 pub mod KindTable
 pub mod Readings
+pub mod Deeper
 pub mod Heads
 pub mod Written
 pub mod ExprSpans

@@ -1,0 +1,307 @@
+-- The records of an expression or type lie one after another: a scan over them meets its field references in the order in
+-- which the tree has them.
+--     Flat                   a run of bytes that hands out some paths, whatever follows it
+--     expr-flat, type-flat   the laws: an expression or type that was read is such a run
+use Prim.Native.Nat.{ℕ, zero, suc, _+_, _-_, _*_, _≤_, _<_}
+use native.Mathlib.Omega.{arith}
+use mathlib.Core.Path.{_≡_, refl, sym, ap, ap₂, _∙_}
+use mathlib.Core.List.{List, [], _∷_, _++_, append-assoc, append-nil, map}
+use mathlib.Core.Option.{none as nothing, some}
+use lib.ListN.{length, getD}
+use Rattle.meaning.specs.Kinds.{ExprForm, Literal, FieldRef, Sizeof, Alignof, Binary, Unary}
+use Rattle.meaning.specs.Kinds.{TypeForm, Primitive, TypeRef, Struct, Union, Enum, Array, SizeUnion}
+use Rattle.meaning.specs.Kinds.{Form, OfExpr, OfType, OfMember, OfRecord, Unknown, formOf}
+use Rattle.meaning.specs.Limits.{depthLimit}
+use Rattle.meaning.specs.Reader.{Read, ok, refused, many, namesFrom}
+use Rattle.meaning.specs.ReadExpr.{readExpr, body}
+use Rattle.meaning.specs.ReadType.{head, arrayHead, memberHead, readMember, readMembers, readGroup, readEnum, readArray, readTy}
+use Rattle.meaning.specs.References.{collectFieldReferencesRecursive, collectFieldReferencesInTypeKind, referencesInMembers}
+use Rattle.meaning.specs.Tree.{Ty, primitive, Member, member, Members, none, more}
+use Rattle.meaning.proofs.Deeper.{type-deeper}
+use Rattle.bundle.specs.declared.Count.the-variants.{Of}
+use Rattle.bundle.specs.declared.Step.the-variants.{Next, Refused}
+use Rattle.bundle.specs.View.{stepOf, countOf, Reads, valueOr}
+use Rattle.bundle.specs.Expressions.{exprAt}
+use Rattle.bundle.proofs.ExprLaws.{Opened, literal-ends, fieldRef-ends, sizeof-ends, alignof-ends, unary-ends, binary-ends}
+use Rattle.bundle.proofs.Trees.{expr-deep, expr-there, tree-other, literal-tree, fieldRef-tree, sizeof-tree, alignof-tree, unary-tree, left-reads, right-reads, binary-tree}
+use Rattle.bundle.specs.Definitions.{typeAt, membersAt, zeroGroup}
+use Rattle.bundle.proofs.Steps.{many-more}
+use Rattle.bundle.proofs.Trees.{first-read, many-first, many-value}
+use Rattle.bundle.proofs.TypeLaws.{primitive-ends, typeRef-ends, struct-ends, union-ends, sizeUnion-ends, enum-ends, array-ends, group-ends, enum-members, array-element, member-type}
+use Rattle.bundle.proofs.TypeTrees.{type-deep, type-there, no-other, primitive-tree, typeRef-tree, struct-reads, struct-tree, union-reads, union-tree, sizeUnion-reads, sizeUnion-tree, enum-reads, enum-tree, array-reads, array-tree}
+use Rattle.bundle.proofs.TypeTrees.{group-value, tag-reads, enum-value, size-reads, array-value, member-reads, member-value}
+use Rattle.sizes.specs.Scan.{also, endOr, exprEnd, typeEnd, recordEnd, namesIn, formAt, pathAt, referencesFrom, pathsFrom}
+use Rattle.sizes.proofs.ScanLaws.{step, nothing-left}
+use Rattle.sizes.proofs.Heads.{ended-reads, ended, ended-ok, body-where, count-where, counted-head, array-where, member-where}
+
+-- two ends of the same
+next-same : {m n : ℕ} → Next m ≡ Next n → m ≡ n
+next-same e = cc
+
+-- a member with nothing in it, for where none was read
+abbrev zeroMember : Member
+zeroMember = member 0 0 (primitive 0)
+
+module _ (s : List ℕ) where
+  -- the run from `at` to m hands out these paths, whatever follows it
+  pub record Flat (at m : ℕ) (paths : List (List ℕ)) : Type 0 where
+    pub forward : at ≤ m
+    pub bound : m ≤ length s
+    pub scan : (end : ℕ) → m ≤ end → pathsFrom s at end ≡ paths ++ pathsFrom s m end
+
+  -- one run after another, and no run
+  pub both : {at i m : ℕ} {ps qs : List (List ℕ)} → Flat at i ps → Flat i m qs → Flat at m (ps ++ qs)
+  both {at} {i} {m} {ps} {qs} f g = record {
+    forward = omega (arith, f .forward, g .forward);
+    bound = g .bound;
+    scan = λ end h. f .scan end (omega (arith, g .forward)) ∙ ap (ps ++_) (g .scan end h) ∙ sym (append-assoc ps qs (pathsFrom s m end));
+  }
+
+  pub empty : {at : ℕ} → at ≤ length s → Flat at at []
+  empty h = record { forward = omega arith; bound = h; scan = λ end l. refl }
+
+  -- one record that is no field reference
+  pub single : (at m : ℕ) (f : Form) → formAt s at ≡ f → recordEnd f s at ≡ m → namesIn f ≡ nothing → at < m → m ≤ length s → Flat at m []
+  single at m f p e r l b = record {
+    forward = omega arith;
+    bound = b;
+    scan = λ end h.
+        let q : recordEnd (formAt s at) s at ≡ m = rw p e in
+        let k : namesIn (formAt s at) ≡ nothing = rw p r in
+        ap (map (pathAt s)) (step s at end (omega arith) (omega (arith, q)) ∙ ap₂ (λ t n. also t at (referencesFrom s n end)) k q);
+  }
+
+  -- a field reference of n names
+  path-is : (at n : ℕ) → formAt s at ≡ OfExpr (FieldRef n) → pathAt s at ≡ namesFrom s (at + 1) n
+  unfolding pathAt namesIn
+  path-is at n p = rw p
+
+  pub reference : (at n : ℕ) → formAt s at ≡ OfExpr (FieldRef n) → at + 1 + 2 * n ≤ length s → Flat at (at + 1 + 2 * n) (namesFrom s (at + 1) n ∷ [])
+  unfolding namesIn recordEnd exprEnd
+  reference at n p b = record {
+    forward = omega arith;
+    bound = b;
+    scan = λ end h.
+        let q : recordEnd (formAt s at) s at ≡ at + 1 + 2 * n = rw p in
+        let k : namesIn (formAt s at) ≡ some n = rw p in
+        ap (map (pathAt s)) (step s at end (omega arith) (omega (arith, q)) ∙ ap₂ (λ t m. also t at (referencesFrom s m end)) k q)
+        ∙ ap (_∷ pathsFrom s (at + 1 + 2 * n) end) (path-is at n p);
+  }
+
+  -- the law of expressions, where d levels are left
+  abbrev ExprFlat : ℕ → Type 0
+  ExprFlat d = (at m : ℕ) → Next m ≡ stepOf (readExpr d s at) → (at < m) × Flat at m (collectFieldReferencesRecursive (exprAt d s at))
+
+  -- a node, by the law of what is inside it
+  module _ (d at m : ℕ) (e : Next m ≡ stepOf (readExpr d s at)) (inner : ExprFlat (d - 1)) where
+    r : Reads (readExpr d s at)
+    r = ended-reads (readExpr d s at) m e
+
+    o : Opened d at s (formAt s at)
+    o = record { deep = expr-deep d at s r; there = expr-there d at s r; form = refl }
+
+    leaf : (f : ExprForm) → formAt s at ≡ OfExpr f → namesIn (OfExpr f) ≡ nothing → (w : ℕ) → exprEnd f at ≡ at + 1 + w
+        → Next m ≡ stepOf (body w s (at + 1)) → (at < m) × Flat at m []
+    unfolding recordEnd
+    leaf f p n w q g =
+        let b = body-where w (at + 1) m s g in
+        (omega (arith, b .0), single at m (OfExpr f) p (q ∙ sym (b .0)) n (omega (arith, b .0)) (omega (arith, b .0, b .1)))
+
+    kind-byte : (f : ExprForm) → formAt s at ≡ OfExpr f → namesIn (OfExpr f) ≡ nothing → exprEnd f at ≡ at + 1 → at + 1 ≤ length s → Flat at (at + 1) []
+    unfolding recordEnd
+    kind-byte f p n q b = single at (at + 1) (OfExpr f) p q n (omega arith) b
+
+    expr-node : (f : Form) → formAt s at ≡ f → (at < m) × Flat at m (collectFieldReferencesRecursive (exprAt d s at))
+    unfolding namesIn exprEnd
+    expr-node (OfExpr (Literal w)) p = rw (literal-tree o r w p) (leaf (Literal w) p refl w refl (e ∙ literal-ends o w p))
+    expr-node (OfExpr (FieldRef n)) p =
+        let b = body-where (2 * n) (at + 1) m s (e ∙ fieldRef-ends o n p) in
+        rw (fieldRef-tree o r n p, b .0) (omega arith, reference at n p (b .1))
+    expr-node (OfExpr Sizeof) p = rw (sizeof-tree o r p) (leaf Sizeof p refl 2 (omega arith) (e ∙ sizeof-ends o p))
+    expr-node (OfExpr Alignof) p = rw (alignof-tree o r p) (leaf Alignof p refl 2 (omega arith) (e ∙ alignof-ends o p))
+    expr-node (OfExpr Binary) p =
+        let left = ended (readExpr (d - 1) s (at + 1)) (left-reads o r p) in
+        let g = inner (at + 1) (left .0) (left .1) in
+        let h = inner (left .0) m (e ∙ binary-ends o (left .0) p (left .1)) in
+        rw (binary-tree o r p (left .0) (left .1))
+        (omega (arith, g .0, h .0), both (kind-byte Binary p refl refl (omega (arith, g .0, h .0, h .1 .bound))) (both (g .1) (h .1)))
+    expr-node (OfExpr Unary) p =
+        let g = inner (at + 1) m (e ∙ unary-ends o p) in
+        rw (unary-tree o r p) (omega (arith, g .0), both (kind-byte Unary p refl refl (omega (arith, g .0, g .1 .bound))) (g .1))
+    expr-node (OfType x) p = absurd (tree-other o r (λ f q. let z : _≡_ {A = ℕ} 0 1 = cc in omega arith))
+    expr-node (OfMember w) p = absurd (tree-other o r (λ f q. let z : _≡_ {A = ℕ} 0 1 = cc in omega arith))
+    expr-node (OfRecord x y z) p = absurd (tree-other o r (λ f q. let z : _≡_ {A = ℕ} 0 1 = cc in omega arith))
+    expr-node Unknown p = absurd (tree-other o r (λ f q. let z : _≡_ {A = ℕ} 0 1 = cc in omega arith))
+
+  pub expr-flat : (d : ℕ) → ExprFlat d
+  expr-flat zero = λ at m e. absurd (expr-deep 0 at s (ended-reads (readExpr 0 s at) m e) refl)
+  expr-flat (suc d) = λ at m e. let q : suc d - 1 ≡ d = omega arith in expr-node (suc d) at m e (rw q (expr-flat d)) (formAt s at) refl
+
+  -- the law of types, where d levels are left
+  abbrev TypeFlat : ℕ → Type 0
+  TypeFlat d = (at m : ℕ) → Next m ≡ stepOf (readTy d s at) → (at < m) × Flat at m (collectFieldReferencesInTypeKind (typeAt d s at))
+
+  -- n members of kind k, by the law of their types
+  module _ (d : ℕ) (inner : TypeFlat d) (k : ℕ) where
+    -- the first of them
+    module _ (n at m : ℕ) (l : 0 < n) (e : Next m ≡ stepOf (readMembers (readTy d) k n s at))
+        (later : (i : ℕ) → i ≤ length s → Next m ≡ stepOf (readMembers (readTy d) k (n - 1) s i) → Flat i m (referencesInMembers (membersAt d k (n - 1) s i))) where
+      first-reads : Reads (readMember (readTy d) k s at)
+      first-reads = many-first more none (readMember (readTy d) k) s zeroMember n at l (ended-reads (readMembers (readTy d) k n s at) m e)
+
+      own : (i : ℕ) × (Next i ≡ stepOf (memberHead k s at))
+      unfolding readMember
+      own = ended (memberHead k s at) (first-read s _ (memberHead k s at) first-reads)
+
+      member-step : Flat at m (referencesInMembers (membersAt d k n s at))
+      unfolding recordEnd namesIn
+      member-step =
+          let w = member-where k at (own .0) s (own .1) in
+          let type = ended (readTy d s (own .0)) (member-reads (readTy d) k s at (own .0) (own .1) first-reads) in
+          let g = inner (own .0) (type .0) (type .1) in
+          let ends = type .1 ∙ sym (member-type (readExpr 0) (readTy d) s at k (own .0) (own .1)) in
+          let h = later (type .0) (g .1 .bound) (e ∙ many-more more none (readMember (readTy d) k) s n at (type .0) l ends) in
+          rw (
+            many-value more none (readMember (readTy d) k) s zeroMember n at (type .0) l ends (ended-reads (readMembers (readTy d) k n s at) m e),
+            member-value (readTy d) k s at (own .0) (own .1) first-reads zeroMember (primitive 0),
+          )
+          (both (single at (own .0) (OfMember (w .width)) (w .form) (omega (arith, w .ends)) refl (omega (arith, w .ends)) (w .bound)) (both (g .1) h))
+
+    members-flat : (n at m : ℕ) → at ≤ length s → Next m ≡ stepOf (readMembers (readTy d) k n s at) → Flat at m (referencesInMembers (membersAt d k n s at))
+    unfolding many
+    members-flat zero at m b e = let p : m ≡ at = cc in rw p (empty b)
+    members-flat (suc n) at m b e =
+        let q : suc n - 1 ≡ n = omega arith in
+        member-step (suc n) at m (omega arith) e (rw q (λ i b e. members-flat n i m b e))
+
+    -- a group of members, whose body is at b
+    group-flat : (b m : ℕ) → Next m ≡ stepOf (readGroup (readTy d) k s b)
+        → (b + 11 ≤ m) × Flat (b + 11) m (referencesInMembers ((valueOr zeroGroup (readGroup (readTy d) k s b)) .members))
+    unfolding readGroup
+    group-flat b m e =
+        let r = ended-reads (readGroup (readTy d) k s b) m e in
+        let c = counted-head (head 2 s b) (first-read s _ (head 2 s b) r) in
+        go r (c .0) (c .1 .0) (c .1 .1)
+      where
+        go : Reads (readGroup (readTy d) k s b) → (n i : ℕ) → Of n i ≡ countOf (head 2 s b)
+            → (b + 11 ≤ m) × Flat (b + 11) m (referencesInMembers ((valueOr zeroGroup (readGroup (readTy d) k s b)) .members))
+        go r n i c =
+            let w = count-where b n i s c in
+            let f = members-flat n i m (omega (arith, w .0, w .1)) (e ∙ group-ends (readExpr 0) (readTy d) s b k n i c) in
+            rw (group-value (readTy d) k s b n i c r zeroGroup, ← (w .0)) (f .forward, f)
+
+  -- a type, by the laws of what is inside it
+  module _ (d at m : ℕ) (l : d ≤ depthLimit) (e : Next m ≡ stepOf (readTy d s at)) (inner : TypeFlat (d - 1)) where
+    t-reads : Reads (readTy d s at)
+    t-reads = ended-reads (readTy d s at) m e
+
+    t-opened : Opened d at s (formAt s at)
+    t-opened = record { deep = type-deep d at s t-reads; there = type-there d at s t-reads; form = refl }
+
+    -- the type's own record, and the parts behind it
+    headed : {n : ℕ} {ps : List (List ℕ)} (f : TypeForm) → formAt s at ≡ OfType f → typeEnd f s at ≡ n → at < n → n ≤ m → Flat n m ps → (at < m) × Flat at m ps
+    unfolding recordEnd namesIn
+    headed {n} f p q g h b = (omega arith, both (single at n (OfType f) p q refl g (omega (arith, b .forward, b .bound))) b)
+
+    -- a size-discriminated union is passed over
+    passed-over : formAt s at ≡ OfType SizeUnion → at < m → m ≤ length s → Flat at m []
+    unfolding recordEnd namesIn typeEnd
+    passed-over p g b =
+        let x = type-deeper d depthLimit l s at _ m (ended-ok (readTy d s at) m (primitive 0) e) in
+        single at m (OfType SizeUnion) p (rw x) refl g b
+
+    enum-parts : (n i j : ℕ) → formAt s at ≡ OfType Enum → Of n i ≡ countOf (head 2 s (at + 1)) → Next j ≡ stepOf (readExpr (d - 1) s i)
+        → Reads (readEnum (readExpr (d - 1)) (readTy (d - 1)) s (at + 1))
+        → (at < m) × Flat at m (collectFieldReferencesInTypeKind (valueOr (primitive 0) (readEnum (readExpr (d - 1)) (readTy (d - 1)) s (at + 1))))
+    unfolding typeEnd
+    enum-parts n i j p c g r =
+        let w = count-where (at + 1) n i s c in
+        let x = expr-flat (d - 1) i j g in
+        let f = members-flat (d - 1) inner 0x52 n j m (x .1 .bound) (e ∙ enum-ends t-opened p ∙ enum-members (readExpr (d - 1)) (readTy (d - 1)) s (at + 1) n i j c g) in
+        rw (enum-value (readExpr (d - 1)) (readTy (d - 1)) s (at + 1) n i c r j g (primitive 0))
+        (headed Enum p (omega (arith, w .0)) (omega (arith, w .0)) (omega (arith, x .0, f .forward)) (both (x .1) f))
+
+    array-parts : (i j : ℕ) → formAt s at ≡ OfType Array → Next i ≡ stepOf (arrayHead s (at + 1)) → Next j ≡ stepOf (readExpr (d - 1) s i)
+        → Reads (readArray (readExpr (d - 1)) (readTy (d - 1)) s (at + 1))
+        → (at < m) × Flat at m (collectFieldReferencesInTypeKind (valueOr (primitive 0) (readArray (readExpr (d - 1)) (readTy (d - 1)) s (at + 1))))
+    unfolding typeEnd
+    array-parts i j p c g r =
+        let w = array-where (at + 1) i s c in
+        let x = expr-flat (d - 1) i j g in
+        let f = inner j m (e ∙ array-ends t-opened p ∙ array-element (readExpr (d - 1)) (readTy (d - 1)) s (at + 1) i j c g) in
+        rw (array-value (readExpr (d - 1)) (readTy (d - 1)) s (at + 1) i c r j g (primitive 0))
+        (headed Array p (omega (arith, w .0)) (omega (arith, w .0)) (omega (arith, x .0, f .0)) (both (x .1) (f .1)))
+
+    type-node : (f : Form) → formAt s at ≡ f → (at < m) × Flat at m (collectFieldReferencesInTypeKind (typeAt d s at))
+    unfolding recordEnd namesIn typeEnd readEnum readArray
+    type-node (OfType Primitive) p =
+        let q : m ≡ at + 1 = next-same (e ∙ primitive-ends t-opened p) in
+        rw (primitive-tree t-opened t-reads p, q) (omega arith, single at (at + 1) (OfType Primitive) p refl refl (omega arith) (omega (arith, type-there d at s t-reads)))
+    type-node (OfType TypeRef) p =
+        let b = body-where 2 (at + 1) m s (e ∙ typeRef-ends t-opened p) in
+        rw (typeRef-tree t-opened t-reads p, b .0) (omega arith, single at (at + 1 + 2) (OfType TypeRef) p (omega arith) refl (omega arith) (b .1))
+    type-node (OfType Struct) p =
+        let g = group-flat (d - 1) inner 0x50 (at + 1) m (e ∙ struct-ends t-opened p) in
+        rw (struct-tree t-opened t-reads zeroGroup p) (headed Struct p (omega arith) (omega arith) (g .0) (g .1))
+    type-node (OfType Union) p =
+        let g = group-flat (d - 1) inner 0x51 (at + 1) m (e ∙ union-ends t-opened p) in
+        rw (union-tree t-opened t-reads zeroGroup p) (headed Union p (omega arith) (omega arith) (g .0) (g .1))
+    type-node (OfType SizeUnion) p =
+        let g = group-flat (d - 1) inner 0x53 (at + 1) m (e ∙ sizeUnion-ends t-opened p) in
+        rw (sizeUnion-tree t-opened t-reads zeroGroup p) (omega (arith, g .0), passed-over p (omega (arith, g .0)) (g .1 .bound))
+    type-node (OfType Enum) p =
+        let r = enum-reads t-opened t-reads p in
+        let c = counted-head (head 2 s (at + 1)) (first-read s _ (head 2 s (at + 1)) r) in
+        let g = ended (readExpr (d - 1) s (c .1 .0)) (tag-reads (readExpr (d - 1)) (readTy (d - 1)) s (at + 1) (c .0) (c .1 .0) (c .1 .1) r) in
+        rw (enum-tree t-opened t-reads p) (enum-parts (c .0) (c .1 .0) (g .0) p (c .1 .1) (g .1) r)
+    type-node (OfType Array) p =
+        let r = array-reads t-opened t-reads p in
+        let c = ended (arrayHead s (at + 1)) (first-read s _ (arrayHead s (at + 1)) r) in
+        let g = ended (readExpr (d - 1) s (c .0)) (size-reads (readExpr (d - 1)) (readTy (d - 1)) s (at + 1) (c .0) (c .1) r) in
+        rw (array-tree t-opened t-reads p) (array-parts (c .0) (g .0) p (c .1) (g .1) r)
+    type-node (OfExpr x) p = absurd (no-other t-opened t-reads (λ f q. let z : _≡_ {A = ℕ} 0 1 = cc in omega arith))
+    type-node (OfMember w) p = absurd (no-other t-opened t-reads (λ f q. let z : _≡_ {A = ℕ} 0 1 = cc in omega arith))
+    type-node (OfRecord x y z) p = absurd (no-other t-opened t-reads (λ f q. let z : _≡_ {A = ℕ} 0 1 = cc in omega arith))
+    type-node Unknown p = absurd (no-other t-opened t-reads (λ f q. let z : _≡_ {A = ℕ} 0 1 = cc in omega arith))
+
+  pub type-flat : (d : ℕ) → d ≤ depthLimit → TypeFlat d
+  type-flat zero l = λ at m e. absurd (type-deep 0 at s (ended-reads (readTy 0 s at) m e) refl)
+  type-flat (suc d) l = λ at m e. let q : suc d - 1 ≡ d = omega arith in type-node (suc d) at m l e (rw q (type-flat d (omega arith))) (formAt s at) refl
+
+  -- every record ends behind its start
+  pub record-forward : (at : ℕ) → at < recordEnd (formAt s at) s at
+  unfolding recordEnd typeEnd exprEnd
+  record-forward at = go (formAt s at)
+    where
+      inside : (x : Read Ty) → readTy depthLimit s at ≡ x → at < endOr (at + 1) x
+      inside (ok t m) p = type-flat depthLimit (omega arith) at m (rw p) .0
+      inside (refused k) p = omega arith
+
+      of-type : (f : TypeForm) → at < typeEnd f s at
+      of-type Primitive = omega arith
+      of-type TypeRef = omega arith
+      of-type Struct = omega arith
+      of-type Union = omega arith
+      of-type Enum = omega arith
+      of-type Array = omega arith
+      of-type SizeUnion = inside (readTy depthLimit s at) refl
+
+      of-expr : (f : ExprForm) → at < exprEnd f at
+      of-expr (Literal w) = omega arith
+      of-expr (FieldRef n) = omega arith
+      of-expr Sizeof = omega arith
+      of-expr Alignof = omega arith
+      of-expr Binary = omega arith
+      of-expr Unary = omega arith
+
+      go : (f : Form) → at < recordEnd f s at
+      go (OfExpr f) = of-expr f
+      go (OfType f) = of-type f
+      go (OfMember w) = omega arith
+      go (OfRecord x y z) = omega arith
+      go Unknown = omega arith
+
+  -- a whole expression or type hands out its references and no more
+  module _ {at m : ℕ} {ps : List (List ℕ)} (f : Flat at m ps) where
+    pub whole : pathsFrom s at m ≡ ps
+    whole = f .scan m (omega arith) ∙ ap (ps ++_) (ap (map (pathAt s)) (nothing-left s m m (omega arith))) ∙ append-nil ps

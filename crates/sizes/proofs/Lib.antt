@@ -1,0 +1,4 @@
+pub mod ScanLaws
+pub mod Heads
+pub mod Flat
+pub mod NamesLaws
