@@ -1,0 +1,13 @@
+pub mod Put
+pub mod Breadth
+pub mod Steps
+pub mod Entries
+pub mod Back
+pub mod Members
+pub mod Links
+pub mod Filling
+pub mod Numbers
+pub mod Named
+pub mod Answer
+pub mod Turn
+pub mod After

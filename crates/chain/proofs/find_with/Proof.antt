@@ -1,0 +1,63 @@
+-- `chain::find_with` meets its contract.
+use native.Mathlib.Omega.{arith}
+use borrow.Author.Needs.{needs}
+use Rattle.chain.proofs.find_with.Statement.{statement}
+use Rattle.chain.proofs.find_with.Tie as tie
+use Rattle.chain.proofs.find_with.Reads as reads
+use Rattle.chain.proofs.find_with.Lts as lts
+use Rattle.chain.proofs.prepare.Reads as prepare-reads
+use Rattle.chain.proofs.search.Reads as search-reads
+
+prepare-requires : tie.Need-prepare-requires
+prepare-requires c κs = search needs
+
+search-requires : tie.Need-search-requires
+search-requires c κs = let a = c .before .before .before .before .before .before .before .before .before .before .before .before .before .before .before .before .before .before .before .before .before .before .before .before .before .before .before .before .before .before .before .before .before .before .before in
+    ((_, c .before .before .before .before .before .before .before .before .before .before .before .before .before .before .before .before .before .before .before .prepare .ensures), a .pre .1 .1)
+
+same-length : tie.Need-same-length
+same-length c = search needs
+
+same-length-2 : tie.Need-same-length-2
+same-length-2 c = search needs
+
+same-length-3 : tie.Need-same-length-3
+same-length-3 c = search needs
+
+same-length-4 : tie.Need-same-length-4
+same-length-4 c = search needs
+
+same-length-5 : tie.Need-same-length-5
+same-length-5 c = search needs
+
+same-length-6 : tie.Need-same-length-6
+same-length-6 c = search needs
+
+same-length-7 : tie.Need-same-length-7
+same-length-7 c = search needs
+
+same-length-8 : tie.Need-same-length-8
+same-length-8 c = search needs
+
+same-length-9 : tie.Need-same-length-9
+same-length-9 c = search needs
+
+returns : tie.Need-returns
+returns c = c .before .before .before .before .before .before .before .before .search .ensures _ (c .before .before .before .before .before .before .before .before .before .before .before .before .before .before .before .before .before .before .before .before .before .before .before .before .before .before .before .before .prepare .ensures)
+
+pub find-with-spec : {M : Type 1} → statement M
+find-with-spec =
+    tie.close
+    (tie.spec
+    prepare-requires
+    search-requires
+    same-length
+    same-length-2
+    same-length-3
+    same-length-4
+    same-length-5
+    same-length-6
+    same-length-7
+    same-length-8
+    same-length-9
+    returns)

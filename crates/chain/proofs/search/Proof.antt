@@ -1,0 +1,173 @@
+-- `chain::search` meets its contract: the name itself, a name that no edge has, or what `reach` found between the numbers.
+use Prim.Native.Nat.{ℕ, _+_, _-_, _*_, _≤_, _<_}
+use mathlib.Core.Path.{_≡_, refl, sym, ap, _∙_, subst}
+use mathlib.Core.List.{List, [], _∷_}
+use mathlib.Core.Option.{some}
+use lib.ListN.{length, getD}
+use Rattle.meaning.specs.Chain.{chainOf}
+use Rattle.meaning.proofs.ChainLaws.{chain-self}
+use Rattle.chain.specs.Index.{numbered, Named}
+use Rattle.chain.specs.Members.{PlaceOf}
+use Rattle.chain.specs.Queue.{AfterSearch}
+use Rattle.chain.specs.declared.Explored.{Explored}
+use Rattle.chain.specs.declared.Explored.the-variants.{From, Nowhere}
+use Rattle.chain.proofs.Answer.{for-chain, no-chain}
+use Rattle.chain.proofs.Members.{missing}
+use Rattle.chain.proofs.Named.{ends-below, no-start, no-end, nowhere, entry-below, somewhere}
+use native.Mathlib.Omega.{arith}
+use borrow.Author.Needs.{needs}
+use Rattle.chain.proofs.search.Statement.{statement}
+use Rattle.chain.proofs.search.Tie as tie
+use Rattle.chain.proofs.search.Reads as reads
+use Rattle.chain.proofs.search.Lts as lts
+use Rattle.chain.proofs.alone.Reads as alone-reads
+use Rattle.chain.proofs.deliver.Reads as deliver-reads
+use Rattle.chain.proofs.place_of.Reads as place-of-reads
+use Rattle.chain.proofs.reach.Reads as reach-reads
+
+-- a number that was found is that of the name
+is-named : {names : List ℕ} {m x r : ℕ} → PlaceOf names m x r → (r ≡ m → ⊥) → Named names m r x
+is-named {m = m} {r = r} p ne = let l : r < m = omega (arith, p .within) in (l, p .here l)
+
+-- what `reach` ensures, by its result
+ended : (c : tie.After-reach) (r : Explored) → c .reach .result ≡ r
+    → AfterSearch (numbered (c .before .before .before .before .before .before .before .before .before .before .before .before .before .before .before .before .before .before .args .ends .now) (c .before .before .before .before .before .before .before .before .before .before .before .before .before .before .before .before .before .before .args .count))
+    (c .before .before .before .before .before .before .before .place-of .result) (c .before .before .before .before .before .place-of2 .result)
+    (c .reach .last .1 .1 .1 .1 .1 .1 .0) (c .reach .last .1 .1 .1 .1 .1 .1 .1 .0) r
+ended c r e =
+    let a = c .before .before .before .before .before .before .before .before .before .before .before .before .before .before .before .before .before .before .args in
+    subst
+    (λ (x : Explored).
+    AfterSearch (numbered (a .ends .now) (a .count)) (c .before .before .before .before .before .before .before .place-of .result) (c .before .before .before .before .before .place-of2 .result)
+    (c .reach .last .1 .1 .1 .1 .1 .1 .0) (c .reach .last .1 .1 .1 .1 .1 .1 .1 .0) x)
+    e
+    (c .reach .ensures)
+
+alone-requires : tie.Need-alone-requires
+alone-requires c κs = search needs
+
+same-length : tie.Need-same-length
+same-length c = search needs
+
+returns : tie.Need-returns
+returns c = λ g s.
+    let a = c .before .before .before .before .before .before .before .before .before .before .before .before .before .before .args in
+    for-chain (subst (λ (x : ℕ). chainOf g (a .from) x ≡ some (a .from ∷ [])) (c .before .before .before .before .if1 .taken) (chain-self g (a .from))) (c .before .before .alone .ensures)
+
+place-of-requires : tie.Need-place-of-requires
+place-of-requires c κs = search needs
+
+returns-2 : tie.Need-returns-2
+returns-2 c = λ g s.
+    for-chain (no-start s _ _ (missing (c .before .place-of .ensures) (omega (arith, c .if2 .taken))) (c .before .before .if1 .left)) (no-chain _)
+
+place-of-requires-2 : tie.Need-place-of-requires-2
+place-of-requires-2 c κs = search needs
+
+returns-3 : tie.Need-returns-3
+returns-3 c = λ g s.
+    for-chain (no-end s _ _ (missing (c .before .place-of2 .ensures) (omega (arith, c .if3 .taken))) (c .before .before .before .before .if1 .left)) (no-chain _)
+
+cast-reach : tie.Need-cast-reach
+cast-reach c = search needs
+
+cast-reach-2 : tie.Need-cast-reach-2
+cast-reach-2 c = search needs
+
+reach-requires : tie.Need-reach-requires
+reach-requires c κs = let a = c .before .before .before .before .before .before .before .before .before .before .before .before .before .before .before .before .before in
+    let s = a .pre .0 .1 in
+    let na = is-named (c .before .before .before .before .before .before .place-of .ensures) (c .before .before .before .before .before .if2 .left) in
+    let nb = is-named (c .before .before .before .before .place-of2 .ensures) (c .before .before .before .if3 .left) in (
+      (s .has-ends, ends-below s),
+      (
+        s .index,
+        (
+          omega (arith, na .0, s .few),
+          λ e. c .before .before .before .before .before .before .before .if1 .left (sym (na .1) ∙ ap (λ (i : ℕ). getD (a .args .names .now) i 0) e ∙ nb .1),
+          a .pre .1,
+        ),
+      ),
+    )
+
+enum-known-end : tie.Need-enum-known-end
+enum-known-end c = search needs
+
+enum-told : tie.Need-enum-told
+enum-told c = search needs
+
+same-length-2 : tie.Need-same-length-2
+same-length-2 c = search needs
+
+same-length-3 : tie.Need-same-length-3
+same-length-3 c = search needs
+
+same-length-4 : tie.Need-same-length-4
+same-length-4 c = search needs
+
+returns-4 : tie.Need-returns-4
+returns-4 c = λ g s.
+    let na = is-named (c .before .before .before .before .before .before .before .before .before .before .before .before .before .before .before .place-of .ensures) (c .before .before .before .before .before .before .before .before .before .before .before .before .before .before .if2 .left) in
+    let nb = is-named (c .before .before .before .before .before .before .before .before .before .before .before .before .before .place-of2 .ensures) (c .before .before .before .before .before .before .before .before .before .before .before .before .if3 .left) in
+    for-chain (nowhere s (λ i. omega (arith, c .before .before .before .before .before .before .before .before .before .before .before .before .before .before .before .before .before .before .before .before .before .before .before .before .before .shared-slice-known .given i)) na nb (ended (c .before .before .before .before .before .before .before .before) (Nowhere _) (c .enum-told .given .1))) (no-chain _)
+
+deliver-requires : tie.Need-deliver-requires
+deliver-requires c κs = let a = c .before .before .before .before .before .before .before .before .before .before .before .before .before .before .before .before .before .before .before .before .before .before .before .before .before .before .before .before .before .before in
+    let s = a .pre .0 .1 in
+    let x = c .before .before .before .before .end .given in
+    let k = c .before .before .before .before .before .before .before .before .before .before .before .before .reach .kept .1 .1 .1 .1 .1 .1 in
+    let h = ended (c .before .before .before .before .before .before .before .before .before .before .before .before) (From (x .0 .0)) (x .1) in
+    let na = is-named (c .before .before .before .before .before .before .before .before .before .before .before .before .before .before .before .before .before .before .before .place-of .ensures) (c .before .before .before .before .before .before .before .before .before .before .before .before .before .before .before .before .before .before .if2 .left) in
+    let nb = is-named (c .before .before .before .before .before .before .before .before .before .before .before .before .before .before .before .before .before .place-of2 .ensures) (c .before .before .before .before .before .before .before .before .before .before .before .before .before .before .before .before .if3 .left) in (
+      (omega (arith, h .small, k .0, a .pre .1 .for-queue), omega (arith, h .small, k .1 .0, a .pre .1 .for-parents), h .rising),
+      λ i l. omega (arith, entry-below s (λ i. omega (arith, c .before .before .before .before .before .before .before .before .before .before .before .before .before .before .before .before .before .before .before .before .before .before .before .before .before .before .before .before .before .shared-slice-known .given i)) na nb h i l, s .members .within),
+    )
+
+same-length-5 : tie.Need-same-length-5
+same-length-5 c = search needs
+
+same-length-6 : tie.Need-same-length-6
+same-length-6 c = search needs
+
+same-length-7 : tie.Need-same-length-7
+same-length-7 c = search needs
+
+same-length-8 : tie.Need-same-length-8
+same-length-8 c = search needs
+
+returns-5 : tie.Need-returns-5
+returns-5 c = λ g s.
+    let a = c .before .before .before .before .before .before .before .before .before .before .before .before .before .before .before .before .before .before .before .before .before .before .before .before .before .before .before .before .before .before .before .before .before in
+    let x = c .before .before .before .before .before .before .before .end .given in
+    let k = c .before .before .before .before .before .before .before .before .before .before .before .before .before .before .before .reach .kept .1 .1 .1 .1 .1 .1 in
+    let h = ended (c .before .before .before .before .before .before .before .before .before .before .before .before .before .before .before) (From (x .0 .0)) (x .1) in
+    let na = is-named (c .before .before .before .before .before .before .before .before .before .before .before .before .before .before .before .before .before .before .before .before .before .before .place-of .ensures) (c .before .before .before .before .before .before .before .before .before .before .before .before .before .before .before .before .before .before .before .before .before .if2 .left) in
+    let nb = is-named (c .before .before .before .before .before .before .before .before .before .before .before .before .before .before .before .before .before .before .before .before .place-of2 .ensures) (c .before .before .before .before .before .before .before .before .before .before .before .before .before .before .before .before .before .before .before .if3 .left) in
+    for-chain (somewhere s (λ i. omega (arith, c .before .before .before .before .before .before .before .before .before .before .before .before .before .before .before .before .before .before .before .before .before .before .before .before .before .before .before .before .before .before .before .before .shared-slice-known .given i)) na nb h (omega (arith, h .small, k .0, a .pre .1 .for-queue))) (c .before .before .deliver .ensures)
+
+pub search-spec : {M : Type 1} → statement M
+search-spec =
+    tie.close
+    (tie.spec
+    alone-requires
+    same-length
+    returns
+    place-of-requires
+    returns-2
+    place-of-requires-2
+    returns-3
+    cast-reach
+    cast-reach-2
+    reach-requires
+    enum-known-end
+    enum-told
+    same-length-2
+    same-length-3
+    same-length-4
+    returns-4
+    deliver-requires
+    same-length-5
+    same-length-6
+    same-length-7
+    same-length-8
+    returns-5)
