@@ -9,11 +9,10 @@ use lib.ListN.{length, getD}
 use Rattle.meaning.specs.Kinds.{ExprForm, Literal, FieldRef, Sizeof, Alignof, Binary, Unary}
 use Rattle.meaning.specs.Kinds.{TypeForm, Primitive, TypeRef, Struct, Union, Enum, Array, SizeUnion}
 use Rattle.meaning.specs.Kinds.{Form, OfExpr, OfType, OfMember, OfRecord, Unknown, formOf}
-use Rattle.meaning.specs.Tree.{Expr, literal, fieldRef, sizeof, alignof, binary, unary, Ty, primitive, typeRef, struct, union, enum, array, sizeUnion, member, none, more, Definition}
-use Rattle.meaning.specs.Reader.{Read, ok, refused, Reader, after, done, refuse, due, byte, number, check, many}
+use Rattle.meaning.specs.Tree.{Expr, literal, fieldRef, sizeof, alignof, binary, unary, Ty, primitive, typeRef, struct, union, enum, array, sizeUnion, member, none, more}
+use Rattle.meaning.specs.Reader.{Read, ok, Reader, after, done, refuse, due, byte, number, check, many}
 use Rattle.meaning.specs.ReadExpr.{kind, body, exprBody, exprAfter, readExpr}
-use Rattle.meaning.specs.ReadType.{Head, head, memberBody, memberHead, readMember, readMembers, Group, readGroup, readEnum, arrayHead, readArray, typeBody, typeAfter, readTy}
-use Rattle.meaning.specs.ReadBundle.{recordBody, opening, readDefinition}
+use Rattle.meaning.specs.ReadType.{head, memberBody, memberHead, readMember, readMembers, readGroup, readEnum, arrayHead, readArray, typeBody, typeAfter, readTy}
 use Rattle.meaning.proofs.Readings.{went, there, many-names}
 
 -- the reader ends within the bytes s, where it starts there

@@ -7,7 +7,7 @@ use mathlib.Core.Bool.{Bool, true, false}
 use mathlib.Core.Option.{some}
 use mathlib.Core.Path.{_≡_, refl, sym, ap, _∙_}
 use mathlib.Core.List.{List, [], _∷_}
-use lib.ListN.{length, getD, getElem?, drop, set, length-set, length-drop}
+use lib.ListN.{length, getD, getElem?, drop, set, length-set}
 use lib.Seq.{getD-set-same, getD-set-other}
 use lib.Dec.{leb}
 use Rattle.bundle.specs.declared.Step.the-variants.{Next, Refused}
@@ -17,21 +17,13 @@ use Rattle.meaning.specs.Reader.{Read, ok, refused, Reader, after, check, many,
 use Rattle.meaning.specs.ReadType.{readTy}
 use Rattle.meaning.specs.ReadBundle.{opening, readDefinition, readEdge}
 use Rattle.bundle.specs.View.{stepOf, Reads, valueOr}
-use Rattle.bundle.specs.Definitions.{typeAt, definitionsAt, edgesAt, definitionAt, Placed, Places, DefinitionsAt, edgeAt}
+use Rattle.bundle.specs.Definitions.{definitionsAt, edgesAt, definitionAt, Placed, DefinitionsAt, edgeAt}
 use Rattle.bundle.proofs.Bounds.{type-in}
 use Rattle.bundle.proofs.RecordLaws.{opening-where, definition-ends}
 use Rattle.bundle.proofs.Steps.{many-none, many-more, many-refused}
-use Rattle.bundle.proofs.Trees.{made-reads, made-value, refused-no, many-first, many-rest, many-value}
+use Rattle.bundle.proofs.Trees.{ended, ended-reads, made-reads, made-value, refused-no, many-first, many-rest, many-value}
 
--- a reading ends somewhere
-pub ended : {A : Type 0} (x : Read A) → Reads x → (m : ℕ) × (Next m ≡ stepOf x)
-ended (ok a m) r = (m, refl)
-
--- bytes that end somewhere were read
-pub ended-reads : {A : Type 0} (x : Read A) (m : ℕ) → Next m ≡ stepOf x → Reads x
-ended-reads (ok a n) m e = tt
-ended-reads (refused k) m e = let z : _≡_ {A = ℕ} 0 1 = cc in absurd (omega arith)
-
+-- what ends alike was read alike
 reads-alike : {A B : Type 0} (x : Read A) (y : Read B) → stepOf x ≡ stepOf y → Reads y → Reads x
 reads-alike x (ok b n) e r = ended-reads x n (sym e)
 reads-alike x (refused k) e r = absurd r

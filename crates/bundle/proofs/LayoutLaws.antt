@@ -1,26 +1,25 @@
 -- The layout of a bundle that was read, and the answers of the calls that open it.
-use Prim.Native.Nat.{ℕ, _+_, _*_, _≤_, _<_}
+use Prim.Native.Nat.{ℕ, _+_, _*_, _≤_}
 use native.Mathlib.Omega.{arith}
 use mathlib.Core.Bool.{Bool, true, false, cond, _&&_}
-use mathlib.Core.Path.{_≡_, refl, sym, ap, _∙_}
+use mathlib.Core.Path.{_≡_, refl, sym, _∙_}
 use mathlib.Core.List.{List, [], _∷_}
 use lib.ListN.{length}
 use lib.Dec.{leb}
 use borrow.Author.Tests.{le-leb, leb-true}
-use Rattle.bundle.specs.declared.Counts.the-variants.{Each, Bad}
+use Rattle.bundle.specs.declared.Counts.the-variants.{Each}
 use Rattle.bundle.specs.declared.Layout.{Layout}
 use Rattle.bundle.specs.declared.Step.the-variants.{Next, Refused}
 use Rattle.meaning.specs.Kinds.{lookup}
-use Rattle.meaning.specs.Tree.{Definition, primitive, Edge, Bundle}
-use Rattle.meaning.specs.Reader.{Read, ok, refused, Reader, after, check, many, little}
+use Rattle.meaning.specs.Tree.{primitive, Bundle}
+use Rattle.meaning.specs.Reader.{Read, ok, refused, after, check, many, little}
 use Rattle.meaning.specs.ReadBundle.{opening, readDefinition, readEdge, Header, readHeader, end, readEdges, readRest, readRecords, readBundle}
-use Rattle.meaning.proofs.Readings.{went}
 use Rattle.bundle.specs.View.{stepOf, countsOf, Reads, valueOr}
-use Rattle.bundle.specs.Definitions.{definitionsAt, edgesAt, bundleOf, DefinitionsAt, Places, Table, EdgesFrom}
+use Rattle.bundle.specs.Definitions.{definitionsAt, edgesAt, bundleOf, Places}
 use Rattle.bundle.specs.Opened.{LayoutOf}
-use Rattle.bundle.proofs.DefinitionLaws.{ended-reads, many-length, definitions-in, EdgesRead, edges-read}
-use Rattle.bundle.proofs.RecordLaws.{opening-where, bundle-ends, bundle-bad, bundle-overlong, rest-ends, rest-refused}
-use Rattle.bundle.proofs.Trees.{first-read}
+use Rattle.bundle.proofs.DefinitionLaws.{many-length, definitions-in, EdgesRead, edges-read}
+use Rattle.bundle.proofs.RecordLaws.{opening-where, bundle-ends, rest-ends, rest-refused}
+use Rattle.bundle.proofs.Trees.{ended-reads, first-read}
 
 -- what was read, from where it ended
 read-is : {A : Type 0} (z : A) (x : Read A) (m : ℕ) → Next m ≡ stepOf x → x ≡ ok (valueOr z x) m

@@ -3,27 +3,29 @@ use Prim.Native.Nat.{ℕ, _+_, _-_, _≤_, _<_}
 use native.Mathlib.Omega.{arith}
 use mathlib.Core.Bool.{true}
 use mathlib.Core.Path.{_≡_, refl, sym, ap, _∙_}
-use mathlib.Core.Option.{Option, some}
-use mathlib.Core.List.{List, [], _∷_, _++_, map}
+use mathlib.Core.Option.{some}
+use mathlib.Core.List.{List, [], _∷_, _++_}
 use lib.ListN.{length, getD, getElem?, set}
 use Rattle.meaning.specs.Kinds.{Form, OfType, Primitive, TypeRef, Struct, Union, SizeUnion}
-use Rattle.bundle.specs.declared.Count.the-variants.{Of, Wrong}
-use Rattle.bundle.specs.declared.Step.the-variants.{Next, Refused}
-use Rattle.meaning.specs.Tree.{Ty, primitive, Member, member, none, more, Definition, Bundle}
+use Rattle.bundle.specs.declared.Count.the-variants.{Of}
+use Rattle.bundle.specs.declared.Step.the-variants.{Next}
+use Rattle.meaning.specs.Tree.{primitive, typeRef, none, more, Definition, Bundle}
 use Rattle.meaning.specs.Reader.{Read, ok, refused, due, little, many}
 use Rattle.meaning.specs.ReadExpr.{readExpr, body}
 use Rattle.meaning.specs.ReadType.{head, arrayHead, memberHead, readMember, readMembers, readGroup, readEnum, readArray, readTy}
-use Rattle.meaning.specs.Circle.{typeNames, typeNamesOfMembers, resolve, namesIn, leadsTo}
+use Rattle.meaning.specs.Circle.{typeNames, typeNamesOfMembers, leadsTo}
 use Rattle.meaning.proofs.Lists.{getElem?-map}
 use Rattle.meaning.proofs.Readings.{there}
 use Rattle.bundle.specs.View.{stepOf, countOf, Reads, valueOr}
 use Rattle.bundle.specs.Definitions.{typeAt, membersAt, zeroGroup, definitionAt, bundleOf, Table}
-use Rattle.bundle.specs.Circles.{typeLeads, membersLead, unwalked, Marks, Followed, Walked, ended, Decided}
+use Rattle.bundle.specs.Circles.{typeLeads, membersLead, unwalked, Marks, Followed, Walked, Decided}
+use Rattle.bundle.specs.Circles as walked
 use Rattle.bundle.proofs.ExprLaws.{Opened}
-use Rattle.bundle.proofs.TypeLaws.{typeRef-ends, member-type}
-use Rattle.bundle.proofs.Trees.{refused-no, first-read, many-first, many-rest, many-value}
-use Rattle.bundle.proofs.TypeTrees.{primitive-tree, typeRef-reads, typeRef-tree, struct-tree, union-tree, sizeUnion-tree, count-no}
-use Rattle.bundle.proofs.TypeTrees.{tag-reads, enum-value, size-reads, array-value, member-reads, member-value}
+use Rattle.bundle.proofs.TypeLaws.{typeRef-ends}
+use Rattle.bundle.proofs.Trees.{ended}
+use Rattle.bundle.proofs.PartTrees.{member-type-reads, member-ends, others-read, members-split}
+use Rattle.bundle.proofs.TypeTrees.{primitive-tree, typeRef-reads, typeRef-tree, struct-tree, union-tree, sizeUnion-tree}
+use Rattle.bundle.proofs.TypeTrees.{enum-value, array-value}
 use Rattle.bundle.proofs.CircleLaws.{resolve-none, resolve-one, resolve-append, unwalked-less, followed-none, followed-both, marks-left, marks-right, marks-inside, one-more}
 use Rattle.bundle.proofs.LookupLaws.{placed-at}
 use Rattle.bundle.proofs.Steps.{many-none, many-more}
@@ -50,8 +52,7 @@ module _ (b : Bundle) {d at : ℕ} {s : List ℕ} {f : Form} (o : Opened d at s 
   unfolding typeLeads
   primitive-leads p = rw (primitive-tree o r p)
 
-  pub typeRef-leads : f ≡ OfType TypeRef → typeLeads b (typeAt d s at) ≡ resolve b (little s (at + 1) 2 ∷ [])
-  unfolding typeLeads
+  pub typeRef-leads : f ≡ OfType TypeRef → typeLeads b (typeAt d s at) ≡ typeLeads b (typeRef (little s (at + 1) 2))
   typeRef-leads p = rw (typeRef-tree o r p, body-read 2 (at + 1) s (typeRef-reads o r p) .0)
 
   pub struct-leads : f ≡ OfType Struct → typeLeads b (typeAt d s at) ≡ membersLead b (valueOr zeroGroup (readGroup (readTy (d - 1)) 0x50 s (at + 1)) .members)
@@ -66,74 +67,23 @@ module _ (b : Bundle) {d at : ℕ} {s : List ℕ} {f : Form} (o : Opened d at s 
   unfolding typeLeads membersLead
   sizeUnion-leads p = rw (sizeUnion-tree o r zeroGroup p)
 
-module _ (d : ℕ) (s : List ℕ) (i : ℕ) where
-  -- a body that was read has no fault
-  pub group-no : (m k : ℕ) → Reads (readGroup (readTy d) m s i) → Wrong k ≡ countOf (head 2 s i) → ⊥
-  unfolding readGroup
-  group-no m k r e = count-no s _ (head 2 s i) k r e
-
-  pub enum-no : (k : ℕ) → Reads (readEnum (readExpr d) (readTy d) s i) → Wrong k ≡ countOf (head 2 s i) → ⊥
-  unfolding readEnum
-  enum-no k r e = count-no s _ (head 2 s i) k r e
-
-  pub tag-no : (n j k : ℕ) → Of n j ≡ countOf (head 2 s i) → Reads (readEnum (readExpr d) (readTy d) s i) → Refused k ≡ stepOf (readExpr d s j) → ⊥
-  tag-no n j k e r g = refused-no (readExpr d s j) k (tag-reads (readExpr d) (readTy d) s i n j e r) (sym g)
-
-  pub enum-leads : (b : Bundle) (n j k : ℕ) (e : Of n j ≡ countOf (head 2 s i)) (r : Reads (readEnum (readExpr d) (readTy d) s i)) → Next k ≡ stepOf (readExpr d s j)
+module _ (b : Bundle) (d : ℕ) (s : List ℕ) (i : ℕ) where
+  pub enum-leads : (n j k : ℕ) (e : Of n j ≡ countOf (head 2 s i)) (r : Reads (readEnum (readExpr d) (readTy d) s i)) → Next k ≡ stepOf (readExpr d s j)
       → typeLeads b (valueOr (primitive 0) (readEnum (readExpr d) (readTy d) s i)) ≡ membersLead b (membersAt d 0x52 n s k)
   unfolding typeLeads membersLead
-  enum-leads b n j k e r g = rw (enum-value (readExpr d) (readTy d) s i n j e r k g (primitive 0))
+  enum-leads n j k e r g = rw (enum-value (readExpr d) (readTy d) s i n j e r k g (primitive 0))
 
-  module _ (r : Reads (readArray (readExpr d) (readTy d) s i)) where
-    pub body-no : (k : ℕ) → Refused k ≡ stepOf (arrayHead s i) → ⊥
-    unfolding readArray
-    body-no k e = refused-no (arrayHead s i) k (first-read s _ (arrayHead s i) r) (sym e)
+  pub array-leads : (j k : ℕ) → Reads (readArray (readExpr d) (readTy d) s i) → Next j ≡ stepOf (arrayHead s i) → Next k ≡ stepOf (readExpr d s j)
+      → typeLeads b (valueOr (primitive 0) (readArray (readExpr d) (readTy d) s i)) ≡ typeLeads b (typeAt d s k)
+  unfolding typeLeads
+  array-leads j k r e g = rw (array-value (readExpr d) (readTy d) s i j e r k g (primitive 0))
 
-    module _ (j : ℕ) (e : Next j ≡ stepOf (arrayHead s i)) where
-      pub size-no : (k : ℕ) → Refused k ≡ stepOf (readExpr d s j) → ⊥
-      size-no k g = refused-no (readExpr d s j) k (size-reads (readExpr d) (readTy d) s i j e r) (sym g)
-
-      pub array-leads : (b : Bundle) (k : ℕ) → Next k ≡ stepOf (readExpr d s j) → typeLeads b (valueOr (primitive 0) (readArray (readExpr d) (readTy d) s i)) ≡ typeLeads b (typeAt d s k)
-      unfolding typeLeads
-      array-leads b k g = rw (array-value (readExpr d) (readTy d) s i j e r k g (primitive 0))
-
--- a member with nothing in it, for where none was read
-abbrev zeroMember : Member
-zeroMember = member 0 0 (primitive 0)
-
--- the first of n members of kind m that were read at `at`, whose own record ended at i
-module _ (d m : ℕ) (s : List ℕ) (n at : ℕ) (h : 0 < n) (r : Reads (readMembers (readTy d) m n s at)) where
-  first-member : Reads (readMember (readTy d) m s at)
-  first-member = many-first more none (readMember (readTy d) m) s zeroMember n at h r
-
-  pub head-no : (k : ℕ) → Refused k ≡ stepOf (memberHead m s at) → ⊥
-  unfolding readMember
-  head-no k e = refused-no (memberHead m s at) k (first-read s _ (memberHead m s at) first-member) (sym e)
-
-  module _ (i : ℕ) (e : Next i ≡ stepOf (memberHead m s at)) where
-    pub member-type-reads : Reads (readTy d s i)
-    member-type-reads = member-reads (readTy d) m s at i e first-member
-
-    module _ (j : ℕ) (g : Next j ≡ stepOf (readTy d s i)) where
-      pub member-ends : Next j ≡ stepOf (readMember (readTy d) m s at)
-      member-ends = g ∙ sym (member-type (readExpr 0) (readTy d) s at m i e)
-
-      pub others-read : Reads (readMembers (readTy d) m (n - 1) s j)
-      others-read = many-rest more none (readMember (readTy d) m) s zeroMember n at j h member-ends r
-
-      members-lead-at : (b : Bundle) → membersLead b (membersAt d m n s at) ≡ typeLeads b (typeAt d s i) ++ membersLead b (membersAt d m (n - 1) s j)
-      unfolding typeLeads membersLead
-      members-lead-at b =
-          rw (many-value more none (readMember (readTy d) m) s zeroMember n at j h member-ends r, member-value (readTy d) m s at i e first-member zeroMember (primitive 0))
-          (resolve-append b (typeNames (typeAt d s i)) (typeNamesOfMembers (membersAt d m (n - 1) s j)))
-
-    -- where the first one's type ends is known only after it was walked
-    pub members-lead : (b : Bundle) → (j : ℕ) × (Next j ≡ stepOf (readTy d s i)) × (membersLead b (membersAt d m n s at) ≡ typeLeads b (typeAt d s i) ++ membersLead b (membersAt d m (n - 1) s j))
-    members-lead b = go (readTy d s i) refl member-type-reads
-      where
-        go : (x : Read Ty) → readTy d s i ≡ x → Reads x → (j : ℕ) × (Next j ≡ stepOf (readTy d s i)) × (membersLead b (membersAt d m n s at) ≡ typeLeads b (typeAt d s i) ++ membersLead b (membersAt d m (n - 1) s j))
-        go (ok t j) p u = let q : Next j ≡ stepOf (readTy d s i) = rw p in (j, q, members-lead-at j q b)
-        go (refused k) p u = absurd u
+-- the first of n members of kind m, whose own record ended at i and whose type ended at j
+members-lead : (b : Bundle) (d m : ℕ) (s : List ℕ) (n at : ℕ) (h : 0 < n) (r : Reads (readMembers (readTy d) m n s at)) (i j : ℕ)
+    → Next i ≡ stepOf (memberHead m s at) → Next j ≡ stepOf (readTy d s i) → membersLead b (membersAt d m n s at) ≡ typeLeads b (typeAt d s i) ++ membersLead b (membersAt d m (n - 1) s j)
+unfolding typeLeads membersLead
+members-lead b d m s n at h r i j e g =
+    rw (members-split d m s n at h r i e j g) (resolve-append b (typeNames (typeAt d s i)) (typeNamesOfMembers (membersAt d m (n - 1) s j)))
 
 pub members-none : (b : Bundle) (d m : ℕ) (s : List ℕ) (n at : ℕ) → n ≡ 0 → membersLead b (membersAt d m n s at) ≡ []
 unfolding many membersLead
@@ -169,22 +119,22 @@ module _ {s : List ℕ} {n : ℕ} {places : List ℕ} (t : Table s n places) {i 
 
 -- the definition of the name x, which is definition i of n
 module _ {s : List ℕ} {n : ℕ} {places : List ℕ} (t : Table s n places) {name i : ℕ} (x : ℕ) (e : name ≡ x) (q : i ≡ definitionOf (bundleOf s) name) where
-  abbrev led : List ℕ
-  led = resolve (bundleOf s) (x ∷ [])
-
-  pub name-none : {marks : List ℕ} {m : ℕ} → n ≤ i → Marks (bundleOf s) led marks → Walked (bundleOf s) led marks marks (Next m) (Next m)
+  pub name-none : {marks : List ℕ} {m : ℕ} → n ≤ i → Marks (bundleOf s) (typeLeads (bundleOf s) (typeRef x)) marks → Walked (bundleOf s) (typeLeads (bundleOf s) (typeRef x)) marks marks (Next m) (Next m)
+  unfolding typeLeads
   name-none {marks} h g =
       let f : Followed (bundleOf s) [] marks marks = followed-none g in
-      ended refl (rw (resolve-none (bundleOf s) x (rw (← e, ← q) (omega (arith, t .count)))) f)
+      walked.ended refl (rw (resolve-none (bundleOf s) x (rw (← e, ← q) (omega (arith, t .count)))) f)
 
-  one : i < n → led ≡ i ∷ []
-  one h = rw (resolve-one (bundleOf s) x (rw (← e, ← q) (omega (arith, t .count)))) (rw (← e, ← q))
+  module _ (h : i < n) where
+    one : typeLeads (bundleOf s) (typeRef x) ≡ i ∷ []
+    unfolding typeLeads
+    one = rw (resolve-one (bundleOf s) x (rw (← e, ← q) (omega (arith, t .count)))) (rw (← e, ← q))
 
-  pub name-marks : {marks : List ℕ} → i < n → Marks (bundleOf s) led marks → Marks (bundleOf s) (i ∷ []) marks
-  name-marks h g = rw (one h) at g
+    pub name-marks : {marks : List ℕ} → Marks (bundleOf s) (typeLeads (bundleOf s) (typeRef x)) marks → Marks (bundleOf s) (i ∷ []) marks
+    name-marks g = rw one at g
 
-  pub name-walked : {before after : List ℕ} {m : ℕ} → i < n → Followed (bundleOf s) (i ∷ []) before after → Walked (bundleOf s) led before after (Next m) (Next m)
-  name-walked h f = ended refl (rw (one h) f)
+    pub name-walked : {before after : List ℕ} {m : ℕ} → Followed (bundleOf s) (i ∷ []) before after → Walked (bundleOf s) (typeLeads (bundleOf s) (typeRef x)) before after (Next m) (Next m)
+    name-walked f = walked.ended refl (rw one f)
 
 -- `left` of n members are to be walked, from `next` on
 pub record Walking (b : Bundle) (d m : ℕ) (s : List ℕ) (n at : ℕ) (before marks : List ℕ) (left next : ℕ) : Type 0 where
@@ -202,17 +152,17 @@ module _ {b : Bundle} {d m : ℕ} {s : List ℕ} {n at : ℕ} {before marks : Li
   pub walking-end : left ≡ 0 → Walked b (membersLead b (membersAt d m n s at)) before marks (stepOf (readMembers (readTy d) m n s at)) (Next next)
   walking-end h =
       let f : Followed b [] marks marks = followed-none (g .marked) in
-      ended (sym (many-none more none (readMember (readTy d) m) s left next h) ∙ g .step) (g .whole marks (rw (members-none b d m s left next h) f))
+      walked.ended (sym (many-none more none (readMember (readTy d) m) s left next h) ∙ g .step) (g .whole marks (rw (members-none b d m s left next h) f))
 
   module _ (h : 0 < left) (i : ℕ) (e : Next i ≡ stepOf (memberHead m s next)) where
     pub walking-inside : Marks b (typeLeads b (typeAt d s i)) marks
     walking-inside =
-        let l = members-lead d m s left next h (g .reads) i e b in
-        marks-left (typeLeads b (typeAt d s i)) (membersLead b (membersAt d m (left - 1) s (l .0))) (rw (l .2) at (g .marked))
+        let j = ended (readTy d s i) (member-type-reads d m s left next h (g .reads) i e) in
+        marks-left (typeLeads b (typeAt d s i)) (membersLead b (membersAt d m (left - 1) s (j .0))) (rw (members-lead b d m s left next h (g .reads) i (j .0) e (j .1)) at (g .marked))
 
     pub walking-next : (j : ℕ) {after : List ℕ} → (Next j ≡ stepOf (readTy d s i)) × Followed b (typeLeads b (typeAt d s i)) marks after → Walking b d m s n at before after (left - 1) j
     walking-next j {after} (q, f) =
-        let l = members-lead-at d m s left next h (g .reads) i e j q b in
+        let l = members-lead b d m s left next h (g .reads) i j e q in
         record {
           reads = others-read d m s left next h (g .reads) i e j q;
           step = sym (many-more more none (readMember (readTy d) m) s left next j h (member-ends d m s left next h (g .reads) i e j q)) ∙ g .step;

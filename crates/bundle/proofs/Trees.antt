@@ -25,6 +25,15 @@ use Rattle.bundle.proofs.ExprLaws.{Opened, after-kind, expr-short, expr
 pub refused-no : {A : Type 0} (x : Read A) (k : ℕ) → Reads x → stepOf x ≡ Refused k → ⊥
 refused-no (ok a m) k r e = let z : _≡_ {A = ℕ} 0 1 = cc in omega arith
 
+-- a reading ends somewhere
+pub ended : {A : Type 0} (x : Read A) → Reads x → (m : ℕ) × (Next m ≡ stepOf x)
+ended (ok a m) r = (m, refl)
+
+-- bytes that end somewhere were read
+pub ended-reads : {A : Type 0} (x : Read A) (m : ℕ) → Next m ≡ stepOf x → Reads x
+ended-reads (ok a n) m e = tt
+ended-reads (refused k) m e = let z : _≡_ {A = ℕ} 0 1 = cc in absurd (omega arith)
+
 -- an expression that was read has a level left, and a kind byte
 pub expr-deep : (d at : ℕ) (s : List ℕ) → Reads (readExpr d s at) → d ≡ 0 → ⊥
 unfolding readExpr

@@ -6,9 +6,13 @@ use mathlib.Core.Path.{_≡_}
 use lib.ListN.{length, getD}
 use Rattle.bundle.specs.declared.Step.{Step}
 use Rattle.bundle.specs.declared.Step.the-variants.{Next, Refused}
-use Rattle.meaning.specs.Tree.{Ty, Members, Bundle}
+use Rattle.meaning.specs.Tree.{Ty, primitive, Members, none, Bundle}
+use Rattle.meaning.specs.Reader.{Read}
+use Rattle.meaning.specs.ReadType.{Group}
 use Rattle.meaning.specs.Limits.{definitionLimit}
 use Rattle.meaning.specs.Circle.{typeNames, typeNamesOfMembers, resolve, leadsTo, Leads}
+use Rattle.bundle.specs.View.{stepOf, Reads, valueOr}
+use Rattle.bundle.specs.Definitions.{zeroGroup, bundleOf}
 
 -- the numbers of the definitions to which a type leads in one step
 unfoldable pub typeLeads : Bundle → Ty → List ℕ
@@ -51,3 +55,23 @@ pub data Walked (b : Bundle) (ds before after : List ℕ) (end : Step) : Step �
 pub data Decided (b : Bundle) (ds before after : List ℕ) : Bool → Type 0 where
   fine : Followed b ds before after → Decided b ds before after true
   loops : {i : ℕ} → Leads b i i → Decided b ds before after false
+
+-- A type, members, or a group of them that were read as x, in the bytes s: before they are walked, and the answer r to the walk.
+
+abbrev pub TypeToWalk : List ℕ → Read Ty → List ℕ → Type 0
+TypeToWalk s x marks = Reads x × Marks (bundleOf s) (typeLeads (bundleOf s) (valueOr (primitive 0) x)) marks
+
+abbrev pub TypeWalked : List ℕ → Read Ty → List ℕ → List ℕ → Step → Type 0
+TypeWalked s x before after r = Walked (bundleOf s) (typeLeads (bundleOf s) (valueOr (primitive 0) x)) before after (stepOf x) r
+
+abbrev pub MembersToWalk : List ℕ → Read Members → List ℕ → Type 0
+MembersToWalk s x marks = Reads x × Marks (bundleOf s) (membersLead (bundleOf s) (valueOr none x)) marks
+
+abbrev pub MembersWalked : List ℕ → Read Members → List ℕ → List ℕ → Step → Type 0
+MembersWalked s x before after r = Walked (bundleOf s) (membersLead (bundleOf s) (valueOr none x)) before after (stepOf x) r
+
+abbrev pub GroupToWalk : List ℕ → Read Group → List ℕ → Type 0
+GroupToWalk s x marks = Reads x × Marks (bundleOf s) (membersLead (bundleOf s) (valueOr zeroGroup x .members)) marks
+
+abbrev pub GroupWalked : List ℕ → Read Group → List ℕ → List ℕ → Step → Type 0
+GroupWalked s x before after r = Walked (bundleOf s) (membersLead (bundleOf s) (valueOr zeroGroup x .members)) before after (stepOf x) r

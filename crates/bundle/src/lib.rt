@@ -13,14 +13,14 @@ ghost use Rattle.bundle.specs.declared.Counts.the-variants.{Each};
 ghost use Rattle.bundle.specs.declared.Step.the-variants.{Next};
 ghost use Rattle.meaning.specs.Reader.{many};
 ghost use mathlib.Core.List.{_∷_, []};
-ghost use Rattle.bundle.specs.View.{Reads, valueOr};
-ghost use Rattle.meaning.specs.Tree.{primitive};
-ghost use Rattle.bundle.specs.Definitions.{typeAt, membersAt, zeroGroup, bundleOf, DefinitionsAt, Table};
-ghost use Rattle.bundle.specs.Circles.{typeLeads, membersLead, Marks, Walked, Decided};
+ghost use Rattle.bundle.specs.View.{Reads};
+ghost use Rattle.meaning.specs.Tree.{typeRef};
+ghost use Rattle.bundle.specs.Definitions.{bundleOf, DefinitionsAt, Table};
+ghost use Rattle.bundle.specs.Circles.{Marks, Decided, TypeToWalk, TypeWalked, MembersToWalk, MembersWalked, GroupToWalk, GroupWalked};
 ghost use Rattle.bundle.specs.Opened.{IsRead, IsOpened, answerMeant};
-ghost use Rattle.meaning.specs.Reader.{little};
+ghost use Rattle.meaning.specs.Reader.{little, ok};
 ghost use Rattle.meaning.specs.Lookup.{definitionOf};
-ghost use Rattle.meaning.specs.Circle.{circles, resolve};
+ghost use Rattle.meaning.specs.Circle.{circles};
 ghost use Rattle.meaning.specs.Calls.{acceptance, answerOf};
 
 // What an expression's kind byte fixes: its body and what follows. A literal has its body length, a field reference its
@@ -549,8 +549,8 @@ fn walk_definition(
 
 // The same for the definition of the name at `at`, if there is one: the end of the name, or 8.
 fn walk_name(s: &[u8], places: &[u16; 256], count: usize, marks: &mut [u8; 256], at: usize) -> Step
-    requires { ⌜ Table (now s) count (now places) × (at + 2 ≤ length (now s)) × Marks (bundleOf (now s)) (resolve (bundleOf (now s)) (little (now s) at 2 ∷ [])) (now marks) ⌝ }
-    ensures { λ r. ⌜ Walked (bundleOf (now (s .entry))) (resolve (bundleOf (now (s .entry))) (little (now (s .entry)) at 2 ∷ [])) (now (marks .entry)) (now (marks .exit)) (Next (at + 2)) r ⌝ }
+    requires { ⌜ (at + 2 ≤ length (now s)) × Table (now s) count (now places) × TypeToWalk (now s) (ok (typeRef (little (now s) at 2)) (at + 2)) (now marks) ⌝ }
+    ensures { λ r. ⌜ TypeWalked (now (s .entry)) (ok (typeRef (little (now (s .entry)) at 2)) (at + 2)) (now (marks .entry)) (now (marks .exit)) r ⌝ }
 {
     let name = u16_at(s, at);
     let i = definition_of(s, places, count, name);
@@ -573,8 +573,8 @@ fn walk_type(
     at: usize,
     depth: usize,
 ) -> Step
-    requires { ⌜ Table (now s) count (now places) × Reads (readTy depth (now s) at) × Marks (bundleOf (now s)) (typeLeads (bundleOf (now s)) (typeAt depth (now s) at)) (now marks) ⌝ }
-    ensures { λ r. ⌜ Walked (bundleOf (now (s .entry))) (typeLeads (bundleOf (now (s .entry))) (typeAt depth (now (s .entry)) at)) (now (marks .entry)) (now (marks .exit)) (stepOf (readTy depth (now (s .entry)) at)) r ⌝ }
+    requires { ⌜ Table (now s) count (now places) × TypeToWalk (now s) (readTy depth (now s) at) (now marks) ⌝ }
+    ensures { λ r. ⌜ TypeWalked (now (s .entry)) (readTy depth (now (s .entry)) at) (now (marks .entry)) (now (marks .exit)) r ⌝ }
 {
     let kind = s[at];
     let form = form_of(kind);
@@ -603,8 +603,8 @@ fn walk_group(
     depth: usize,
     kind: u8,
 ) -> Step
-    requires { ⌜ (at ≤ length (now s)) × Table (now s) count (now places) × Reads (readGroup (readTy depth) kind (now s) at) × Marks (bundleOf (now s)) (membersLead (bundleOf (now s)) (valueOr zeroGroup (readGroup (readTy depth) kind (now s) at) .members)) (now marks) ⌝ }
-    ensures { λ r. ⌜ Walked (bundleOf (now (s .entry))) (membersLead (bundleOf (now (s .entry))) (valueOr zeroGroup (readGroup (readTy depth) kind (now (s .entry)) at) .members)) (now (marks .entry)) (now (marks .exit)) (stepOf (readGroup (readTy depth) kind (now (s .entry)) at)) r ⌝ }
+    requires { ⌜ (at ≤ length (now s)) × Table (now s) count (now places) × GroupToWalk (now s) (readGroup (readTy depth) kind (now s) at) (now marks) ⌝ }
+    ensures { λ r. ⌜ GroupWalked (now (s .entry)) (readGroup (readTy depth) kind (now (s .entry)) at) (now (marks .entry)) (now (marks .exit)) r ⌝ }
 {
     let head = count_at(s, at);
     match head {
@@ -622,8 +622,8 @@ fn walk_enum(
     at: usize,
     depth: usize,
 ) -> Step
-    requires { ⌜ (at ≤ length (now s)) × Table (now s) count (now places) × Reads (readEnum (readExpr depth) (readTy depth) (now s) at) × Marks (bundleOf (now s)) (typeLeads (bundleOf (now s)) (valueOr (primitive 0) (readEnum (readExpr depth) (readTy depth) (now s) at))) (now marks) ⌝ }
-    ensures { λ r. ⌜ Walked (bundleOf (now (s .entry))) (typeLeads (bundleOf (now (s .entry))) (valueOr (primitive 0) (readEnum (readExpr depth) (readTy depth) (now (s .entry)) at))) (now (marks .entry)) (now (marks .exit)) (stepOf (readEnum (readExpr depth) (readTy depth) (now (s .entry)) at)) r ⌝ }
+    requires { ⌜ (at ≤ length (now s)) × Table (now s) count (now places) × TypeToWalk (now s) (readEnum (readExpr depth) (readTy depth) (now s) at) (now marks) ⌝ }
+    ensures { λ r. ⌜ TypeWalked (now (s .entry)) (readEnum (readExpr depth) (readTy depth) (now (s .entry)) at) (now (marks .entry)) (now (marks .exit)) r ⌝ }
 {
     let head = count_at(s, at);
     match head {
@@ -647,8 +647,8 @@ fn walk_array(
     at: usize,
     depth: usize,
 ) -> Step
-    requires { ⌜ (at ≤ length (now s)) × Table (now s) count (now places) × Reads (readArray (readExpr depth) (readTy depth) (now s) at) × Marks (bundleOf (now s)) (typeLeads (bundleOf (now s)) (valueOr (primitive 0) (readArray (readExpr depth) (readTy depth) (now s) at))) (now marks) ⌝ }
-    ensures { λ r. ⌜ Walked (bundleOf (now (s .entry))) (typeLeads (bundleOf (now (s .entry))) (valueOr (primitive 0) (readArray (readExpr depth) (readTy depth) (now (s .entry)) at))) (now (marks .entry)) (now (marks .exit)) (stepOf (readArray (readExpr depth) (readTy depth) (now (s .entry)) at)) r ⌝ }
+    requires { ⌜ (at ≤ length (now s)) × Table (now s) count (now places) × TypeToWalk (now s) (readArray (readExpr depth) (readTy depth) (now s) at) (now marks) ⌝ }
+    ensures { λ r. ⌜ TypeWalked (now (s .entry)) (readArray (readExpr depth) (readTy depth) (now (s .entry)) at) (now (marks .entry)) (now (marks .exit)) r ⌝ }
 {
     let head = array_head_at(s, at);
     match head {
@@ -674,8 +674,8 @@ fn walk_members(
     kind: u8,
     n: usize,
 ) -> Step
-    requires { ⌜ Table (now s) count (now places) × Reads (readMembers (readTy depth) kind n (now s) at) × Marks (bundleOf (now s)) (membersLead (bundleOf (now s)) (membersAt depth kind n (now s) at)) (now marks) ⌝ }
-    ensures { λ r. ⌜ Walked (bundleOf (now (s .entry))) (membersLead (bundleOf (now (s .entry))) (membersAt depth kind n (now (s .entry)) at)) (now (marks .entry)) (now (marks .exit)) (stepOf (readMembers (readTy depth) kind n (now (s .entry)) at)) r ⌝ }
+    requires { ⌜ Table (now s) count (now places) × MembersToWalk (now s) (readMembers (readTy depth) kind n (now s) at) (now marks) ⌝ }
+    ensures { λ r. ⌜ MembersWalked (now (s .entry)) (readMembers (readTy depth) kind n (now (s .entry)) at) (now (marks .entry)) (now (marks .exit)) r ⌝ }
 {
     let mut next = at;
     let mut left = n;
