@@ -8,6 +8,8 @@ pub mod Links
 pub mod Filling
 pub mod Numbers
 pub mod Named
+pub mod Edges
+pub mod Called
 pub mod Answer
 pub mod Turn
 pub mod After

@@ -4,12 +4,14 @@
 ghost use mathlib.Core.Path.{_≡_};
 ghost use mathlib.Core.Bool.{true, false};
 ghost use mathlib.Core.List.{List, [], _∷_, _++_};
-ghost use mathlib.Core.Option.{some};
+ghost use mathlib.Core.Option.{Option, some};
 ghost use Prim.Native.Nat.{ℕ, _+_, _*_, _≤_, _<_};
 ghost use lib.ListN.{length, getD, drop, replicate};
 ghost use Rattle.meaning.specs.Chain.{Graph, chainOf};
 ghost use Rattle.chain.specs.Edges.{graphAt, HasEdges};
-ghost use Rattle.chain.specs.Found.{Answers};
+ghost use Rattle.meaning.specs.Calls.{result, answerOf, Call, onBundle};
+ghost use Rattle.bundle.specs.Opened.{answerMeant};
+ghost use Rattle.chain.specs.Found.{Answers, foundOf, namesIn, chainDue};
 ghost use Rattle.chain.specs.Members.{Members, PlaceOf, grown, Pushed, Entered};
 ghost use Rattle.chain.specs.Index.{Numbering, numbered, Linked, Indexed, HasEnds, EndsBelow, Room, Prepared, Workspace};
 ghost use Rattle.chain.specs.Queue.{Holds, Added, Rising, chainTo, namesOf, Searching, AfterFollow, AfterSearch, MembersAfter};
@@ -534,4 +536,35 @@ pub fn find_chain_at(
         return find_few(bytes, at, count, from, to, list);
     }
     find_many(bytes, at, count, from, to, list)
+}
+
+// What a call answers for what was found, where the list has so many places.
+fn answer_for(found: Found, size: usize) -> bundle::Answer
+    ensures { λ r. ⌜ ((o : Option (List ℕ)) → found ≡ foundOf o → answerMeant r ≡ answerOf (result (namesIn o)) size) ⌝ }
+{
+    match found {
+        Found::Missing => bundle::Answer::Accepted(0),
+        Found::Chain(n) => {
+            if n <= size {
+                bundle::Answer::Accepted(n)
+            } else {
+                bundle::Answer::Refused(9)
+            }
+        }
+    }
+}
+
+// The chain from `from` to `to` over the edges of a bundle, into the first places of `list`.
+pub fn find_chain(bytes: &[u8], from: u16, to: u16, list: &mut [u16]) -> bundle::Answer
+    ensures { λ r. ⌜ Call (onBundle (chainDue from to) (now (bytes .entry))) (now (list .entry)) (now (list .exit)) (answerMeant r) ⌝ }
+{
+    let mut places = [0u16; 256];
+    let opening = bundle::open(bytes, &mut places);
+    match opening {
+        bundle::Opening::Opened(layout) => {
+            let found = find_chain_at(bytes, layout.edges_at, layout.edges, from, to, list);
+            answer_for(found, list.len())
+        }
+        bundle::Opening::Refused(k) => bundle::Answer::Refused(k),
+    }
 }

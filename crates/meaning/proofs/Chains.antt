@@ -2,7 +2,7 @@
 -- Assumes nothing.
 use Prim.Native.Nat.{ℕ, zero, suc, _≤_, _<_}
 use mathlib.Core.Path.{_≡_, refl, ap, ap₂, _∙_}
-use mathlib.Core.List.{List, [], _∷_, map}
+use mathlib.Core.List.{List, [], _∷_, map, map-id}
 use mathlib.Core.Option.{Option, none, some, Option·map, orElse, map-eq-some-iff}
 use native.Mathlib.Omega.{arith}
 use lib.Dec.{eqb}
@@ -51,6 +51,14 @@ module _ (f : ℕ → ℕ) (keeps : (m n : ℕ) → eqb (f m) (f n) ≡ eqb m n)
       go : (o : Option (List ℕ)) → firstWalk g a c ≡ o → Option·map (namesOn g′ (f a)) o ≡ Option·map (map f) (Option·map (namesOn g a) o)
       go none q = refl
       go (some es) q = ap {B = Option (List ℕ)} (λ ns. some (f a ∷ ns)) (ends-map a c es (firstWalk-some g a c es q .walk))
+
+-- graphs whose edges have the same ends have the same chains
+pub chainOf-same : (g g′ : Graph) → Renamed (λ n. n) g g′ → (a c : ℕ) → chainOf g′ a c ≡ chainOf g a c
+chainOf-same g g′ R a c = chainOf-map (λ n. n) (λ m n. refl) g g′ R a c ∙ kept (chainOf g a c)
+  where
+    kept : (o : Option (List ℕ)) → Option·map (map (λ n. n)) o ≡ o
+    kept none = refl
+    kept (some ns) = ap {B = Option (List ℕ)} some (map-id ns)
 
 -- a chain has at most one name more than there are edges
 pub chain-length : (g : Graph) (a c : ℕ) (ns : List ℕ) → chainOf g a c ≡ some ns → length ns ≤ suc (g .count)
