@@ -5,7 +5,7 @@
 use Prim.Native.Nat.{ℕ, zero, suc, _+_, _-_, _*_, _≤_, _<_}
 use native.Mathlib.Omega.{arith}
 use mathlib.Core.Path.{_≡_, refl, sym, ap, ap₂, _∙_}
-use mathlib.Core.List.{List, [], _∷_, _++_, append-assoc, append-nil, map}
+use mathlib.Core.List.{List, [], _∷_, _++_, append-assoc, append-nil, map, map-append}
 use mathlib.Core.Option.{none as nothing, some}
 use lib.ListN.{length, getD}
 use Rattle.meaning.specs.Kinds.{ExprForm, Literal, FieldRef, Sizeof, Alignof, Binary, Unary}
@@ -14,79 +14,98 @@ use Rattle.meaning.specs.Kinds.{Form, OfExpr, OfType, OfMember, OfRecord, Unkno
 use Rattle.meaning.specs.Limits.{depthLimit}
 use Rattle.meaning.specs.Reader.{Read, ok, refused, many, namesFrom}
 use Rattle.meaning.specs.ReadExpr.{readExpr, body}
-use Rattle.meaning.specs.ReadType.{head, arrayHead, memberHead, readMember, readMembers, readGroup, readEnum, readArray, readTy}
+use Rattle.meaning.specs.ReadType.{head, memberHead, readMembers, readTy}
 use Rattle.meaning.specs.References.{collectFieldReferencesRecursive, collectFieldReferencesInTypeKind, referencesInMembers}
-use Rattle.meaning.specs.Tree.{Ty, primitive, Member, member, Members, none, more}
+use Rattle.meaning.specs.Tree.{Attributes, Ty, primitive, Members}
 use Rattle.meaning.proofs.Deeper.{type-deeper}
 use Rattle.bundle.specs.declared.Count.the-variants.{Of}
 use Rattle.bundle.specs.declared.Step.the-variants.{Next, Refused}
-use Rattle.bundle.specs.View.{stepOf, countOf, Reads, valueOr}
+use Rattle.bundle.specs.View.{stepOf, countOf, Reads}
 use Rattle.bundle.specs.Expressions.{exprAt}
 use Rattle.bundle.proofs.ExprLaws.{Opened, literal-ends, fieldRef-ends, sizeof-ends, alignof-ends, unary-ends, binary-ends}
 use Rattle.bundle.proofs.Trees.{expr-deep, expr-there, tree-other, literal-tree, fieldRef-tree, sizeof-tree, alignof-tree, unary-tree, left-reads, right-reads, binary-tree}
-use Rattle.bundle.specs.Definitions.{typeAt, membersAt, zeroGroup}
-use Rattle.bundle.proofs.Steps.{many-more}
-use Rattle.bundle.proofs.Trees.{first-read, many-first, many-value}
-use Rattle.bundle.proofs.TypeLaws.{primitive-ends, typeRef-ends, struct-ends, union-ends, sizeUnion-ends, enum-ends, array-ends, group-ends, enum-members, array-element, member-type}
-use Rattle.bundle.proofs.TypeTrees.{type-deep, type-there, no-other, primitive-tree, typeRef-tree, struct-reads, struct-tree, union-reads, union-tree, sizeUnion-reads, sizeUnion-tree, enum-reads, enum-tree, array-reads, array-tree}
-use Rattle.bundle.proofs.TypeTrees.{group-value, tag-reads, enum-value, size-reads, array-value, member-reads, member-value}
-use Rattle.sizes.specs.Scan.{also, endOr, exprEnd, typeEnd, recordEnd, namesIn, formAt, pathAt, referencesFrom, pathsFrom}
+use Rattle.bundle.specs.Definitions.{typeAt, membersAt}
+use Rattle.bundle.proofs.TypeLaws.{primitive-ends, typeRef-ends}
+use Rattle.bundle.proofs.TypeTrees.{type-deep, type-there, no-other, primitive-tree, typeRef-tree}
+use Rattle.sizes.specs.Scan.{also, endOr, exprEnd, typeEnd, recordEnd, namesIn, formAt, pathAt, referencesFrom, pathsFrom, Fits}
 use Rattle.sizes.proofs.ScanLaws.{step, nothing-left}
-use Rattle.sizes.proofs.Heads.{ended-reads, ended, ended-ok, body-where, count-where, counted-head, array-where, member-where}
+use Rattle.sizes.proofs.Heads.{ended-reads, ended, ended-ok, body-where, counted-head, member-where}
+use Rattle.sizes.proofs.Parts.{GroupParts, struct-parts, struct-count, union-parts, union-count, sizeUnion-parts, sizeUnion-count, enum-at, array-at, own-reads, type-reads, others-end, members-tree}
 
 -- two ends of the same
 next-same : {m n : ℕ} → Next m ≡ Next n → m ≡ n
 next-same e = cc
 
--- a member with nothing in it, for where none was read
-abbrev zeroMember : Member
-zeroMember = member 0 0 (primitive 0)
+-- how many names there are
+pub length-names : (s : List ℕ) (n at : ℕ) → length (namesFrom s at n) ≡ n
+unfolding namesFrom
+length-names s zero at = refl
+length-names s (suc n) at = ap suc (length-names s n (at + 2))
 
 module _ (s : List ℕ) where
-  -- the run from `at` to m hands out these paths, whatever follows it
+  -- the run from `at` to m has field references of these paths, whatever follows it
   pub record Flat (at m : ℕ) (paths : List (List ℕ)) : Type 0 where
     pub forward : at ≤ m
     pub bound : m ≤ length s
-    pub scan : (end : ℕ) → m ≤ end → pathsFrom s at end ≡ paths ++ pathsFrom s m end
+    pub places : List ℕ
+    pub scan : (end : ℕ) → m ≤ end → referencesFrom s at end ≡ places ++ referencesFrom s m end
+    pub are : map (pathAt s) places ≡ paths
+    pub fits : Fits s places
 
   -- one run after another, and no run
+  fits-append : (ps qs : List ℕ) → Fits s ps → Fits s qs → Fits s (ps ++ qs)
+  fits-append [] qs f g = g
+  fits-append (p ∷ ps) qs f g = (f .0, fits-append ps qs (f .1) g)
+
   pub both : {at i m : ℕ} {ps qs : List (List ℕ)} → Flat at i ps → Flat i m qs → Flat at m (ps ++ qs)
   both {at} {i} {m} {ps} {qs} f g = record {
     forward = omega (arith, f .forward, g .forward);
     bound = g .bound;
-    scan = λ end h. f .scan end (omega (arith, g .forward)) ∙ ap (ps ++_) (g .scan end h) ∙ sym (append-assoc ps qs (pathsFrom s m end));
+    places = f .places ++ g .places;
+    scan = λ end h.
+        f .scan end (omega (arith, g .forward))
+        ∙ ap (f .places ++_) (g .scan end h)
+        ∙ sym (append-assoc (f .places) (g .places) (referencesFrom s m end));
+    are = map-append (pathAt s) (f .places) (g .places) ∙ ap₂ _++_ (f .are) (g .are);
+    fits = fits-append (f .places) (g .places) (f .fits) (g .fits);
   }
 
   pub empty : {at : ℕ} → at ≤ length s → Flat at at []
-  empty h = record { forward = omega arith; bound = h; scan = λ end l. refl }
+  empty h = record { forward = omega arith; bound = h; places = []; scan = λ end l. refl; are = refl; fits = tt }
 
   -- one record that is no field reference
   pub single : (at m : ℕ) (f : Form) → formAt s at ≡ f → recordEnd f s at ≡ m → namesIn f ≡ nothing → at < m → m ≤ length s → Flat at m []
   single at m f p e r l b = record {
     forward = omega arith;
     bound = b;
+    places = [];
     scan = λ end h.
         let q : recordEnd (formAt s at) s at ≡ m = rw p e in
         let k : namesIn (formAt s at) ≡ nothing = rw p r in
-        ap (map (pathAt s)) (step s at end (omega arith) (omega (arith, q)) ∙ ap₂ (λ t n. also t at (referencesFrom s n end)) k q);
+        step s at end (omega arith) (omega (arith, q)) ∙ ap₂ (λ t n. also t at (referencesFrom s n end)) k q;
+    are = refl;
+    fits = tt;
   }
 
   -- a field reference of n names
-  path-is : (at n : ℕ) → formAt s at ≡ OfExpr (FieldRef n) → pathAt s at ≡ namesFrom s (at + 1) n
-  unfolding pathAt namesIn
-  path-is at n p = rw p
+  pub path-is : (at n : ℕ) → namesIn (formAt s at) ≡ some n → (pathAt s at ≡ namesFrom s (at + 1) n) × (length (pathAt s at) ≡ n)
+  unfolding pathAt
+  path-is at n p = rw p (refl, length-names s n (at + 1))
 
   pub reference : (at n : ℕ) → formAt s at ≡ OfExpr (FieldRef n) → at + 1 + 2 * n ≤ length s → Flat at (at + 1 + 2 * n) (namesFrom s (at + 1) n ∷ [])
   unfolding namesIn recordEnd exprEnd
-  reference at n p b = record {
-    forward = omega arith;
-    bound = b;
-    scan = λ end h.
-        let q : recordEnd (formAt s at) s at ≡ at + 1 + 2 * n = rw p in
-        let k : namesIn (formAt s at) ≡ some n = rw p in
-        ap (map (pathAt s)) (step s at end (omega arith) (omega (arith, q)) ∙ ap₂ (λ t m. also t at (referencesFrom s m end)) k q)
-        ∙ ap (_∷ pathsFrom s (at + 1 + 2 * n) end) (path-is at n p);
-  }
+  reference at n p b =
+      let q : recordEnd (formAt s at) s at ≡ at + 1 + 2 * n = rw p in
+      let k : namesIn (formAt s at) ≡ some n = rw p in
+      let i = path-is at n k in
+      record {
+        forward = omega arith;
+        bound = b;
+        places = at ∷ [];
+        scan = λ end h. step s at end (omega arith) (omega (arith, q)) ∙ ap₂ (λ t m. also t at (referencesFrom s m end)) k q;
+        are = ap (_∷ []) (i .0);
+        fits = (omega (arith, i .1, b), tt);
+      }
 
   -- the law of expressions, where d levels are left
   abbrev ExprFlat : ℕ → Type 0
@@ -146,25 +165,16 @@ module _ (s : List ℕ) where
     -- the first of them
     module _ (n at m : ℕ) (l : 0 < n) (e : Next m ≡ stepOf (readMembers (readTy d) k n s at))
         (later : (i : ℕ) → i ≤ length s → Next m ≡ stepOf (readMembers (readTy d) k (n - 1) s i) → Flat i m (referencesInMembers (membersAt d k (n - 1) s i))) where
-      first-reads : Reads (readMember (readTy d) k s at)
-      first-reads = many-first more none (readMember (readTy d) k) s zeroMember n at l (ended-reads (readMembers (readTy d) k n s at) m e)
-
-      own : (i : ℕ) × (Next i ≡ stepOf (memberHead k s at))
-      unfolding readMember
-      own = ended (memberHead k s at) (first-read s _ (memberHead k s at) first-reads)
-
       member-step : Flat at m (referencesInMembers (membersAt d k n s at))
       unfolding recordEnd namesIn
       member-step =
+          let r = ended-reads (readMembers (readTy d) k n s at) m e in
+          let own = ended (memberHead k s at) (own-reads d k s n at l r) in
           let w = member-where k at (own .0) s (own .1) in
-          let type = ended (readTy d s (own .0)) (member-reads (readTy d) k s at (own .0) (own .1) first-reads) in
+          let type = ended (readTy d s (own .0)) (type-reads d k s n at l r (own .0) (own .1)) in
           let g = inner (own .0) (type .0) (type .1) in
-          let ends = type .1 ∙ sym (member-type (readExpr 0) (readTy d) s at k (own .0) (own .1)) in
-          let h = later (type .0) (g .1 .bound) (e ∙ many-more more none (readMember (readTy d) k) s n at (type .0) l ends) in
-          rw (
-            many-value more none (readMember (readTy d) k) s zeroMember n at (type .0) l ends (ended-reads (readMembers (readTy d) k n s at) m e),
-            member-value (readTy d) k s at (own .0) (own .1) first-reads zeroMember (primitive 0),
-          )
+          let h = later (type .0) (g .1 .bound) (e ∙ others-end d k s n at l r (own .0) (own .1) (type .0) (type .1)) in
+          rw (members-tree d k s n at l r (own .0) (own .1) (type .0) (type .1))
           (both (single at (own .0) (OfMember (w .width)) (w .form) (omega (arith, w .ends)) refl (omega (arith, w .ends)) (w .bound)) (both (g .1) h))
 
     members-flat : (n at m : ℕ) → at ≤ length s → Next m ≡ stepOf (readMembers (readTy d) k n s at) → Flat at m (referencesInMembers (membersAt d k n s at))
@@ -173,22 +183,6 @@ module _ (s : List ℕ) where
     members-flat (suc n) at m b e =
         let q : suc n - 1 ≡ n = omega arith in
         member-step (suc n) at m (omega arith) e (rw q (λ i b e. members-flat n i m b e))
-
-    -- a group of members, whose body is at b
-    group-flat : (b m : ℕ) → Next m ≡ stepOf (readGroup (readTy d) k s b)
-        → (b + 11 ≤ m) × Flat (b + 11) m (referencesInMembers ((valueOr zeroGroup (readGroup (readTy d) k s b)) .members))
-    unfolding readGroup
-    group-flat b m e =
-        let r = ended-reads (readGroup (readTy d) k s b) m e in
-        let c = counted-head (head 2 s b) (first-read s _ (head 2 s b) r) in
-        go r (c .0) (c .1 .0) (c .1 .1)
-      where
-        go : Reads (readGroup (readTy d) k s b) → (n i : ℕ) → Of n i ≡ countOf (head 2 s b)
-            → (b + 11 ≤ m) × Flat (b + 11) m (referencesInMembers ((valueOr zeroGroup (readGroup (readTy d) k s b)) .members))
-        go r n i c =
-            let w = count-where b n i s c in
-            let f = members-flat n i m (omega (arith, w .0, w .1)) (e ∙ group-ends (readExpr 0) (readTy d) s b k n i c) in
-            rw (group-value (readTy d) k s b n i c r zeroGroup, ← (w .0)) (f .forward, f)
 
   -- a type, by the laws of what is inside it
   module _ (d at m : ℕ) (l : d ≤ depthLimit) (e : Next m ≡ stepOf (readTy d s at)) (inner : TypeFlat (d - 1)) where
@@ -210,55 +204,45 @@ module _ (s : List ℕ) where
         let x = type-deeper d depthLimit l s at _ m (ended-ok (readTy d s at) m (primitive 0) e) in
         single at m (OfType SizeUnion) p (rw x) refl g b
 
-    enum-parts : (n i j : ℕ) → formAt s at ≡ OfType Enum → Of n i ≡ countOf (head 2 s (at + 1)) → Next j ≡ stepOf (readExpr (d - 1) s i)
-        → Reads (readEnum (readExpr (d - 1)) (readTy (d - 1)) s (at + 1))
-        → (at < m) × Flat at m (collectFieldReferencesInTypeKind (valueOr (primitive 0) (readEnum (readExpr (d - 1)) (readTy (d - 1)) s (at + 1))))
-    unfolding typeEnd
-    enum-parts n i j p c g r =
-        let w = count-where (at + 1) n i s c in
-        let x = expr-flat (d - 1) i j g in
-        let f = members-flat (d - 1) inner 0x52 n j m (x .1 .bound) (e ∙ enum-ends t-opened p ∙ enum-members (readExpr (d - 1)) (readTy (d - 1)) s (at + 1) n i j c g) in
-        rw (enum-value (readExpr (d - 1)) (readTy (d - 1)) s (at + 1) n i c r j g (primitive 0))
-        (headed Enum p (omega (arith, w .0)) (omega (arith, w .0)) (omega (arith, x .0, f .forward)) (both (x .1) f))
-
-    array-parts : (i j : ℕ) → formAt s at ≡ OfType Array → Next i ≡ stepOf (arrayHead s (at + 1)) → Next j ≡ stepOf (readExpr (d - 1) s i)
-        → Reads (readArray (readExpr (d - 1)) (readTy (d - 1)) s (at + 1))
-        → (at < m) × Flat at m (collectFieldReferencesInTypeKind (valueOr (primitive 0) (readArray (readExpr (d - 1)) (readTy (d - 1)) s (at + 1))))
-    unfolding typeEnd
-    array-parts i j p c g r =
-        let w = array-where (at + 1) i s c in
-        let x = expr-flat (d - 1) i j g in
-        let f = inner j m (e ∙ array-ends t-opened p ∙ array-element (readExpr (d - 1)) (readTy (d - 1)) s (at + 1) i j c g) in
-        rw (array-value (readExpr (d - 1)) (readTy (d - 1)) s (at + 1) i c r j g (primitive 0))
-        (headed Array p (omega (arith, w .0)) (omega (arith, w .0)) (omega (arith, x .0, f .0)) (both (x .1) (f .1)))
+    -- members of kind k behind it
+    grouped : {make : Attributes → Members → Ty} {k : ℕ} (f : TypeForm) → formAt s at ≡ OfType f → typeEnd f s at ≡ at + 12
+        → Reads (head 2 s (at + 1)) → ((n i : ℕ) → Of n i ≡ countOf (head 2 s (at + 1)) → GroupParts make k d s at n i)
+        → ((a : Attributes) (ms : Members) → collectFieldReferencesInTypeKind (make a ms) ≡ referencesInMembers ms)
+        → (at < m) × Flat at m (collectFieldReferencesInTypeKind (typeAt d s at))
+    grouped {make} {k} f p q h parts is =
+        let c = counted-head (head 2 s (at + 1)) h in
+        let g = parts (c .0) (c .1 .0) (c .1 .1) in
+        let ms = members-flat (d - 1) inner k (c .0) (c .1 .0) m (g .bound) (e ∙ g .ends) in
+        rw (g .tree, is) (headed f p (q ∙ sym (g .start)) (omega (arith, g .start)) (ms .forward) ms)
 
     type-node : (f : Form) → formAt s at ≡ f → (at < m) × Flat at m (collectFieldReferencesInTypeKind (typeAt d s at))
-    unfolding recordEnd namesIn typeEnd readEnum readArray
+    unfolding recordEnd namesIn typeEnd
     type-node (OfType Primitive) p =
         let q : m ≡ at + 1 = next-same (e ∙ primitive-ends t-opened p) in
         rw (primitive-tree t-opened t-reads p, q) (omega arith, single at (at + 1) (OfType Primitive) p refl refl (omega arith) (omega (arith, type-there d at s t-reads)))
     type-node (OfType TypeRef) p =
         let b = body-where 2 (at + 1) m s (e ∙ typeRef-ends t-opened p) in
         rw (typeRef-tree t-opened t-reads p, b .0) (omega arith, single at (at + 1 + 2) (OfType TypeRef) p (omega arith) refl (omega arith) (b .1))
-    type-node (OfType Struct) p =
-        let g = group-flat (d - 1) inner 0x50 (at + 1) m (e ∙ struct-ends t-opened p) in
-        rw (struct-tree t-opened t-reads zeroGroup p) (headed Struct p (omega arith) (omega arith) (g .0) (g .1))
-    type-node (OfType Union) p =
-        let g = group-flat (d - 1) inner 0x51 (at + 1) m (e ∙ union-ends t-opened p) in
-        rw (union-tree t-opened t-reads zeroGroup p) (headed Union p (omega arith) (omega arith) (g .0) (g .1))
+    type-node (OfType Struct) p = grouped Struct p refl (struct-count t-opened t-reads p) (λ n i. struct-parts t-opened t-reads n i p) (λ a ms. refl)
+    type-node (OfType Union) p = grouped Union p refl (union-count t-opened t-reads p) (λ n i. union-parts t-opened t-reads n i p) (λ a ms. refl)
     type-node (OfType SizeUnion) p =
-        let g = group-flat (d - 1) inner 0x53 (at + 1) m (e ∙ sizeUnion-ends t-opened p) in
-        rw (sizeUnion-tree t-opened t-reads zeroGroup p) (omega (arith, g .0), passed-over p (omega (arith, g .0)) (g .1 .bound))
+        let c = counted-head (head 2 s (at + 1)) (sizeUnion-count t-opened t-reads p) in
+        let g = sizeUnion-parts t-opened t-reads (c .0) (c .1 .0) p (c .1 .1) in
+        let ms = members-flat (d - 1) inner 0x53 (c .0) (c .1 .0) m (g .bound) (e ∙ g .ends) in
+        let h : at < m = omega (arith, g .start, ms .forward) in
+        rw (g .tree) (h, passed-over p h (ms .bound))
     type-node (OfType Enum) p =
-        let r = enum-reads t-opened t-reads p in
-        let c = counted-head (head 2 s (at + 1)) (first-read s _ (head 2 s (at + 1)) r) in
-        let g = ended (readExpr (d - 1) s (c .1 .0)) (tag-reads (readExpr (d - 1)) (readTy (d - 1)) s (at + 1) (c .0) (c .1 .0) (c .1 .1) r) in
-        rw (enum-tree t-opened t-reads p) (enum-parts (c .0) (c .1 .0) (g .0) p (c .1 .1) (g .1) r)
+        let a = enum-at t-opened t-reads p in
+        let g = a .parts in
+        let x = expr-flat (d - 1) (a .i) (a .j) (a .tag) in
+        let ms = members-flat (d - 1) inner 0x52 (a .n) (a .j) m (x .1 .bound) (e ∙ g .ends) in
+        rw (g .tree) (headed Enum p (sym (g .start)) (omega (arith, g .start)) (omega (arith, x .0, ms .forward)) (both (x .1) ms))
     type-node (OfType Array) p =
-        let r = array-reads t-opened t-reads p in
-        let c = ended (arrayHead s (at + 1)) (first-read s _ (arrayHead s (at + 1)) r) in
-        let g = ended (readExpr (d - 1) s (c .0)) (size-reads (readExpr (d - 1)) (readTy (d - 1)) s (at + 1) (c .0) (c .1) r) in
-        rw (array-tree t-opened t-reads p) (array-parts (c .0) (g .0) p (c .1) (g .1) r)
+        let a = array-at t-opened t-reads p in
+        let g = a .parts in
+        let x = expr-flat (d - 1) (a .i) (a .j) (a .size) in
+        let element = inner (a .j) m (e ∙ g .ends) in
+        rw (g .tree) (headed Array p (sym (g .start)) (omega (arith, g .start)) (omega (arith, x .0, element .0)) (both (x .1) (element .1)))
     type-node (OfExpr x) p = absurd (no-other t-opened t-reads (λ f q. let z : _≡_ {A = ℕ} 0 1 = cc in omega arith))
     type-node (OfMember w) p = absurd (no-other t-opened t-reads (λ f q. let z : _≡_ {A = ℕ} 0 1 = cc in omega arith))
     type-node (OfRecord x y z) p = absurd (no-other t-opened t-reads (λ f q. let z : _≡_ {A = ℕ} 0 1 = cc in omega arith))
@@ -301,7 +285,13 @@ module _ (s : List ℕ) where
       go (OfRecord x y z) = omega arith
       go Unknown = omega arith
 
-  -- a whole expression or type hands out its references and no more
+  -- a whole expression or type: its field references in order, each within the bytes
   module _ {at m : ℕ} {ps : List (List ℕ)} (f : Flat at m ps) where
+    all-places : referencesFrom s at m ≡ f .places
+    all-places = f .scan m (omega arith) ∙ ap (f .places ++_) (nothing-left s m m (omega arith)) ∙ append-nil (f .places)
+
     pub whole : pathsFrom s at m ≡ ps
-    whole = f .scan m (omega arith) ∙ ap (ps ++_) (ap (map (pathAt s)) (nothing-left s m m (omega arith))) ∙ append-nil ps
+    whole = ap (map (pathAt s)) all-places ∙ f .are
+
+    pub whole-fits : Fits s (referencesFrom s at m)
+    whole-fits = rw all-places (f .fits)

@@ -16,7 +16,7 @@ use Rattle.meaning.specs.ReadExpr.{body}
 use Rattle.meaning.specs.ReadType.{Head, head, arrayHead, memberHead, readTy}
 use Rattle.meaning.proofs.KindTable.{side}
 use Rattle.meaning.proofs.Readings.{went, there}
-use Rattle.bundle.specs.declared.Count.the-variants.{Of}
+use Rattle.bundle.specs.declared.Count.the-variants.{Of, Wrong}
 use Rattle.bundle.specs.declared.Step.the-variants.{Next, Refused}
 use Rattle.bundle.specs.View.{stepOf, countOf, Reads, valueOr}
 use Rattle.sizes.specs.Scan.{endOr, typeEnd}
@@ -66,6 +66,13 @@ count-where at n m s e = go (head 2 s at) refl e
 
 pub counted-head : (x : Read Head) → Reads x → (n : ℕ) × ((m : ℕ) × (Of n m ≡ countOf x))
 counted-head (ok h m) r = (h .last, (m, refl))
+
+pub count-refused : (at k : ℕ) (s : List ℕ) → Reads (head 2 s at) → Wrong k ≡ countOf (head 2 s at) → ⊥
+count-refused at k s r e = go (head 2 s at) r e
+  where
+    go : (x : Read Head) → Reads x → Wrong k ≡ countOf x → ⊥
+    go (ok h m) r e = let z : _≡_ {A = ℕ} 0 1 = cc in omega arith
+    go (refused j) r e = r
 
 -- the body of an array
 pub array-where : (at m : ℕ) (s : List ℕ) → Next m ≡ stepOf (arrayHead s at) → (m ≡ at + 10) × (at + 10 ≤ length s)

@@ -1,10 +1,10 @@
 -- The records of a run of bytes, one after another, and the field references among them.
-use Prim.Native.Nat.{ℕ, zero, suc, _+_, _-_, _*_}
+use Prim.Native.Nat.{ℕ, zero, suc, _+_, _-_, _*_, _≤_}
 use mathlib.Core.Bool.{cond}
 use mathlib.Core.Option.{Option, none, some}
 use mathlib.Core.List.{List, [], _∷_, map}
 use lib.Dec.{ltb}
-use lib.ListN.{getD}
+use lib.ListN.{length, getD}
 use Rattle.meaning.specs.Kinds.{ExprForm, Literal, FieldRef, Sizeof, Alignof, Binary, Unary}
 use Rattle.meaning.specs.Kinds.{TypeForm, Primitive, TypeRef, Struct, Union, Enum, Array, SizeUnion}
 use Rattle.meaning.specs.Kinds.{Form, OfExpr, OfType, OfMember, OfRecord, Unknown, formOf}
@@ -93,6 +93,11 @@ referencesFrom s at end = positions s (end - at) at at
 -- their paths
 abbrev pub pathsFrom : List ℕ → ℕ → ℕ → List (List ℕ)
 pathsFrom s at end = map (pathAt s) (referencesFrom s at end)
+
+-- each of the references lies within the bytes
+abbrev pub Fits : List ℕ → List ℕ → Type 0
+Fits s [] = Unit {0}
+Fits s (p ∷ ps) = (p + 1 + 2 * length (pathAt s p) ≤ length s) × Fits s ps
 
 -- the first of some positions
 abbrev pub foundOf : List ℕ → Found
