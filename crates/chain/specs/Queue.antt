@@ -1,6 +1,6 @@
 -- What holds of the queue of a breadth-first search. Entry i has the name `name i`, and `path i` is the walk that led to
 -- it, which the code does not store.
-use Prim.Native.Nat.{ℕ, zero, suc, _+_, _≤_, _<_}
+use Prim.Native.Nat.{ℕ, zero, suc, _+_, _-_, _≤_, _<_}
 use mathlib.Core.Path.{_≡_}
 use mathlib.Core.Logic.{_⊎_}
 use mathlib.Core.Bool.{Bool, true, false}
@@ -87,9 +87,9 @@ abbrev pub AfterFollow : Graph → ℕ → ℕ → ℕ → List ℕ → List ℕ
 AfterFollow g start to h names parents (All n) = Searching g start to names parents n (h + 1) 0
 AfterFollow g start to h names parents Reached = Hit g start to names parents h
 
--- the search ends at an entry from which `to` is reached, or there is no chain
+-- the search ends at the last of k entries, from which `to` is reached, or there is no chain
 abbrev pub AfterSearch : Graph → ℕ → ℕ → List ℕ → List ℕ → Explored → Type 0
-AfterSearch g start to names parents (From h) = Hit g start to names parents h
+AfterSearch g start to names parents (From k) = (0 < k) × Hit g start to names parents (k - 1)
 AfterSearch g start to names parents (Nowhere n) = chainOf g start to ≡ none
 
 -- the members after the edges from an entry are followed

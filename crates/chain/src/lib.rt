@@ -233,9 +233,9 @@ fn follow(
 
 // Where a search ends.
 pub enum Explored {
-    // At this entry, from whose number an edge leads to the one that is looked for.
+    // With the edges from so many entries followed; one from the last of them leads to the number that is looked for.
     From(usize),
-    // Without reaching it, with the edges from so many entries followed.
+    // Without reaching it, with the edges from so many entries followed, which are all.
     Nowhere(usize),
 }
 
@@ -273,11 +273,11 @@ fn explore(
             parents,
             places,
         );
+        head += 1;
         let Followed::All(m) = step else {
             return Explored::From(head);
         };
         n = m;
-        head += 1;
     }
     Explored::Nowhere(n)
 }
@@ -412,10 +412,10 @@ pub fn search(
         parents,
         places,
     );
-    let Explored::From(entry) = end else {
+    let Explored::From(followed) = end else {
         return Found::Missing;
     };
-    deliver(names, queue, parents, entry, to, list)
+    deliver(names, queue, parents, followed - 1, to, list)
 }
 
 // The chain over `count` edges that stand in the bytes from `at` on, with lists that have room for them. What these hold before is free.

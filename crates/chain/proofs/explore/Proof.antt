@@ -92,7 +92,7 @@ same-length-3 : tie.Need-same-length-3 Inv-loop μ-loop
 same-length-3 c = search needs
 
 returns : tie.Need-returns Inv-loop μ-loop
-returns c = reached (c .before .before .before .before .before .before .before .before .before .before .before .before .before .before .before .loop .inv .0) (c .enum-told .given .1) (c .before .before .before .before .before .before .before .before .follow .ensures .0)
+returns c = reached (c .before .before .before .before .before .before .before .before .before .before .before .before .before .before .before .loop .inv .0) _ refl (c .enum-told .given .1) (c .before .before .before .before .before .before .before .before .follow .ensures .0)
 
 add-head : tie.Need-add-head Inv-loop μ-loop
 add-head c = search needs
@@ -137,13 +137,13 @@ explore-spec =
     shared-slice-read-start
     cast-start
     follow-requires
+    add-head
     enum-known-step
     enum-told
     same-length
     same-length-2
     same-length-3
     returns
-    add-head
     loop-less
     loop-again
     same-length-4

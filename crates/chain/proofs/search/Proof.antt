@@ -1,6 +1,6 @@
 -- `chain::search` meets its contract: the name itself, a name that no edge has, or what `reach` found between the numbers.
-use Prim.Native.Nat.{ℕ, _+_, _-_, _*_, _≤_, _<_}
-use mathlib.Core.Path.{_≡_, refl, sym, ap, _∙_, subst}
+use Prim.Native.Nat.{ℕ, _+_, _-_, _<_}
+use mathlib.Core.Path.{_≡_, sym, ap, _∙_, subst}
 use mathlib.Core.List.{List, [], _∷_}
 use mathlib.Core.Option.{some}
 use lib.ListN.{length, getD}
@@ -29,16 +29,35 @@ use Rattle.chain.proofs.reach.Reads as reach-reads
 is-named : {names : List ℕ} {m x r : ℕ} → PlaceOf names m x r → (r ≡ m → ⊥) → Named names m r x
 is-named {m = m} {r = r} p ne = let l : r < m = omega (arith, p .within) in (l, p .here l)
 
+-- the places on the way, from where both numbers are known
+abbrev begin : tie.Else3 → tie.Start
+begin c = c .before .before .before .before .before .before .before .before .before .before .before .before .before .before
+
+abbrev first-place : tie.Else3 → tie.After-place-of
+first-place c = c .before .before .before
+
+abbrev both : tie.After-reach → tie.Else3
+both c = c .before .before .before .before
+
+start-named : (c : tie.Else3) → Named (begin c .args .names .now) (begin c .args .m) (first-place c .place-of .result) (begin c .args .from)
+start-named c = is-named (first-place c .place-of .ensures) (c .before .before .if2 .left)
+
+end-named : (c : tie.Else3) → Named (begin c .args .names .now) (begin c .args .m) (c .before .place-of2 .result) (begin c .args .to)
+end-named c = is-named (c .before .place-of2 .ensures) (c .if3 .left)
+
+-- names are 16-bit numbers
+name-small : (c : tie.Else3) (i : ℕ) → getD (begin c .args .names .now) i 0 < 65536
+name-small c i = omega (arith, c .before .before .before .before .before .before .before .before .before .before .before .before .before .shared-slice-known .given i)
+
 -- what `reach` ensures, by its result
 ended : (c : tie.After-reach) (r : Explored) → c .reach .result ≡ r
-    → AfterSearch (numbered (c .before .before .before .before .before .before .before .before .before .before .before .before .before .before .before .before .before .before .args .ends .now) (c .before .before .before .before .before .before .before .before .before .before .before .before .before .before .before .before .before .before .args .count))
-    (c .before .before .before .before .before .before .before .place-of .result) (c .before .before .before .before .before .place-of2 .result)
+    → AfterSearch (numbered (begin (both c) .args .ends .now) (begin (both c) .args .count)) (first-place (both c) .place-of .result) (both c .before .place-of2 .result)
     (c .reach .last .1 .1 .1 .1 .1 .1 .0) (c .reach .last .1 .1 .1 .1 .1 .1 .1 .0) r
 ended c r e =
-    let a = c .before .before .before .before .before .before .before .before .before .before .before .before .before .before .before .before .before .before .args in
+    let a = begin (both c) .args in
     subst
     (λ (x : Explored).
-    AfterSearch (numbered (a .ends .now) (a .count)) (c .before .before .before .before .before .before .before .place-of .result) (c .before .before .before .before .before .place-of2 .result)
+    AfterSearch (numbered (a .ends .now) (a .count)) (first-place (both c) .place-of .result) (both c .before .place-of2 .result)
     (c .reach .last .1 .1 .1 .1 .1 .1 .0) (c .reach .last .1 .1 .1 .1 .1 .1 .1 .0) x)
     e
     (c .reach .ensures)
@@ -75,16 +94,15 @@ cast-reach-2 : tie.Need-cast-reach-2
 cast-reach-2 c = search needs
 
 reach-requires : tie.Need-reach-requires
-reach-requires c κs = let a = c .before .before .before .before .before .before .before .before .before .before .before .before .before .before .before .before .before in
-    let s = a .pre .0 .1 in
-    let na = is-named (c .before .before .before .before .before .before .place-of .ensures) (c .before .before .before .before .before .if2 .left) in
-    let nb = is-named (c .before .before .before .before .place-of2 .ensures) (c .before .before .before .if3 .left) in (
+reach-requires c κs = let t = c .before .before .before in
+    let a = begin t in
+    let s = a .pre .0 .1 in (
       (s .has-ends, ends-below s),
       (
         s .index,
         (
-          omega (arith, na .0, s .few),
-          λ e. c .before .before .before .before .before .before .before .if1 .left (sym (na .1) ∙ ap (λ (i : ℕ). getD (a .args .names .now) i 0) e ∙ nb .1),
+          omega (arith, start-named t .0, s .few),
+          λ e. c .before .before .before .before .before .before .before .if1 .left (sym (start-named t .1) ∙ ap (λ (i : ℕ). getD (a .args .names .now) i 0) e ∙ end-named t .1),
           a .pre .1,
         ),
       ),
@@ -107,20 +125,22 @@ same-length-4 c = search needs
 
 returns-4 : tie.Need-returns-4
 returns-4 c = λ g s.
-    let na = is-named (c .before .before .before .before .before .before .before .before .before .before .before .before .before .before .before .place-of .ensures) (c .before .before .before .before .before .before .before .before .before .before .before .before .before .before .if2 .left) in
-    let nb = is-named (c .before .before .before .before .before .before .before .before .before .before .before .before .before .place-of2 .ensures) (c .before .before .before .before .before .before .before .before .before .before .before .before .if3 .left) in
-    for-chain (nowhere s (λ i. omega (arith, c .before .before .before .before .before .before .before .before .before .before .before .before .before .before .before .before .before .before .before .before .before .before .before .before .before .shared-slice-known .given i)) na nb (ended (c .before .before .before .before .before .before .before .before) (Nowhere _) (c .enum-told .given .1))) (no-chain _)
+    let t = c .before .before .before .before .before .before .before .before in
+    for-chain (nowhere s (name-small (both t)) (start-named (both t)) (end-named (both t)) (ended t (Nowhere _) (c .enum-told .given .1))) (no-chain _)
+
+sub-deliver : tie.Need-sub-deliver
+sub-deliver c = let x = c .before .before .before .end .given in
+    omega (arith, ended (c .before .before .before .before .before .before .before .before .before .before .before) (From (x .0 .0)) (x .1) .0)
 
 deliver-requires : tie.Need-deliver-requires
-deliver-requires c κs = let a = c .before .before .before .before .before .before .before .before .before .before .before .before .before .before .before .before .before .before .before .before .before .before .before .before .before .before .before .before .before .before in
+deliver-requires c κs = let t = c .before .before .before .before .before .before .before .before .before .before .before .before in
+    let a = begin (both t) in
     let s = a .pre .0 .1 in
     let x = c .before .before .before .before .end .given in
-    let k = c .before .before .before .before .before .before .before .before .before .before .before .before .reach .kept .1 .1 .1 .1 .1 .1 in
-    let h = ended (c .before .before .before .before .before .before .before .before .before .before .before .before) (From (x .0 .0)) (x .1) in
-    let na = is-named (c .before .before .before .before .before .before .before .before .before .before .before .before .before .before .before .before .before .before .before .place-of .ensures) (c .before .before .before .before .before .before .before .before .before .before .before .before .before .before .before .before .before .before .if2 .left) in
-    let nb = is-named (c .before .before .before .before .before .before .before .before .before .before .before .before .before .before .before .before .before .place-of2 .ensures) (c .before .before .before .before .before .before .before .before .before .before .before .before .before .before .before .before .if3 .left) in (
+    let k = t .reach .kept .1 .1 .1 .1 .1 .1 in
+    let h = ended t (From (x .0 .0)) (x .1) .1 in (
       (omega (arith, h .small, k .0, a .pre .1 .for-queue), omega (arith, h .small, k .1 .0, a .pre .1 .for-parents), h .rising),
-      λ i l. omega (arith, entry-below s (λ i. omega (arith, c .before .before .before .before .before .before .before .before .before .before .before .before .before .before .before .before .before .before .before .before .before .before .before .before .before .before .before .before .before .shared-slice-known .given i)) na nb h i l, s .members .within),
+      λ i l. omega (arith, entry-below s (name-small (both t)) (start-named (both t)) (end-named (both t)) h i l, s .members .within),
     )
 
 same-length-5 : tie.Need-same-length-5
@@ -137,13 +157,10 @@ same-length-8 c = search needs
 
 returns-5 : tie.Need-returns-5
 returns-5 c = λ g s.
-    let a = c .before .before .before .before .before .before .before .before .before .before .before .before .before .before .before .before .before .before .before .before .before .before .before .before .before .before .before .before .before .before .before .before .before in
+    let t = c .before .before .before .before .before .before .before .before .before .before .before .before .before .before .before in
     let x = c .before .before .before .before .before .before .before .end .given in
-    let k = c .before .before .before .before .before .before .before .before .before .before .before .before .before .before .before .reach .kept .1 .1 .1 .1 .1 .1 in
-    let h = ended (c .before .before .before .before .before .before .before .before .before .before .before .before .before .before .before) (From (x .0 .0)) (x .1) in
-    let na = is-named (c .before .before .before .before .before .before .before .before .before .before .before .before .before .before .before .before .before .before .before .before .before .before .place-of .ensures) (c .before .before .before .before .before .before .before .before .before .before .before .before .before .before .before .before .before .before .before .before .before .if2 .left) in
-    let nb = is-named (c .before .before .before .before .before .before .before .before .before .before .before .before .before .before .before .before .before .before .before .before .place-of2 .ensures) (c .before .before .before .before .before .before .before .before .before .before .before .before .before .before .before .before .before .before .before .if3 .left) in
-    for-chain (somewhere s (λ i. omega (arith, c .before .before .before .before .before .before .before .before .before .before .before .before .before .before .before .before .before .before .before .before .before .before .before .before .before .before .before .before .before .before .before .before .shared-slice-known .given i)) na nb h (omega (arith, h .small, k .0, a .pre .1 .for-queue))) (c .before .before .deliver .ensures)
+    let h = ended t (From (x .0 .0)) (x .1) .1 in
+    for-chain (somewhere s (name-small (both t)) (start-named (both t)) (end-named (both t)) h (omega (arith, h .small, t .reach .kept .1 .1 .1 .1 .1 .1 .0, begin (both t) .pre .1 .for-queue))) (c .before .before .deliver .ensures)
 
 pub search-spec : {M : Type 1} → statement M
 search-spec =
@@ -165,6 +182,7 @@ search-spec =
     same-length-3
     same-length-4
     returns-4
+    sub-deliver
     deliver-requires
     same-length-5
     same-length-6
