@@ -1,4 +1,4 @@
--- What the walk for circles keeps: a mark for each definition, 0 not walked, 1 on the way to what is walked now, more walked.
+-- The walk for circles, with a mark for each definition: 0 not walked, 1 on the way to what is walked now, over 1 walked.
 use Prim.Native.Nat.{ℕ, zero, suc, _≤_, _<_}
 use mathlib.Core.Bool.{Bool, true, false}
 use mathlib.Core.List.{List, [], _∷_, List·Memᴰ}
@@ -56,20 +56,22 @@ pub data Decided (b : Bundle) (ds before after : List ℕ) : Bool → Type 0 whe
   fine : Followed b ds before after → Decided b ds before after true
   loops : {i : ℕ} → Leads b i i → Decided b ds before after false
 
--- A type, members, or a group of them that were read as x, in the bytes s: before they are walked, and the answer r to the walk.
-
+-- a type was read as x in the bytes s, and can be walked
 abbrev pub TypeToWalk : List ℕ → Read Ty → List ℕ → Type 0
 TypeToWalk s x marks = Reads x × Marks (bundleOf s) (typeLeads (bundleOf s) (valueOr (primitive 0) x)) marks
 
+-- r is the answer to the walk
 abbrev pub TypeWalked : List ℕ → Read Ty → List ℕ → List ℕ → Step → Type 0
 TypeWalked s x before after r = Walked (bundleOf s) (typeLeads (bundleOf s) (valueOr (primitive 0) x)) before after (stepOf x) r
 
+-- the same for members
 abbrev pub MembersToWalk : List ℕ → Read Members → List ℕ → Type 0
 MembersToWalk s x marks = Reads x × Marks (bundleOf s) (membersLead (bundleOf s) (valueOr none x)) marks
 
 abbrev pub MembersWalked : List ℕ → Read Members → List ℕ → List ℕ → Step → Type 0
 MembersWalked s x before after r = Walked (bundleOf s) (membersLead (bundleOf s) (valueOr none x)) before after (stepOf x) r
 
+-- the same for a struct or union
 abbrev pub GroupToWalk : List ℕ → Read Group → List ℕ → Type 0
 GroupToWalk s x marks = Reads x × Marks (bundleOf s) (membersLead (bundleOf s) (valueOr zeroGroup x .members)) marks
 

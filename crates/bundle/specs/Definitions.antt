@@ -40,7 +40,7 @@ bundleOf s = valueOr (record { current = 0; definitions = []; edges = [] }) (rea
 unfoldable pub definitionAt : List ℕ → ℕ → Definition
 definitionAt s p = record { name = little s (p - 2) 2; type = typeAt depthLimit s p }
 
--- the type at p was read, and o is its definition
+-- the type at p was read, behind a kind byte and a name, and o is its definition
 pub record Placed (s : List ℕ) (o : Option Definition) (p : ℕ) : Type 0 where
   pub behind : 3 ≤ p
   pub reads : Reads (readTy depthLimit s p)
@@ -51,7 +51,7 @@ pub record Places (s : List ℕ) (ds : List Definition) (places : List ℕ) : Ty
   pub room : length ds ≤ definitionLimit
   pub each : (i : ℕ) → i < length ds → Placed s (getElem? ds i) (getD places i 0)
 
--- n definitions were read at `at`, and `places` has their types; r is where they end
+-- r is where the n definitions at `at` end, or the number of their fault; where they were read, `places` has them
 pub record DefinitionsAt (s : List ℕ) (at n : ℕ) (places : List ℕ) (r : Step) : Type 0 where
   pub step : r ≡ stepOf (many _∷_ [] readDefinition n s at)
   pub placed : Reads (many _∷_ [] readDefinition n s at) → Places s (definitionsAt n s at) places

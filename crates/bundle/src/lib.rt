@@ -2,26 +2,21 @@
 ghost use mathlib.Core.Path.{_≡_};
 ghost use Prim.Native.Nat.{_+_, _≤_, _<_};
 ghost use lib.ListN.{length};
+ghost use mathlib.Core.List.{_∷_, []};
 ghost use Rattle.meaning.specs.Kinds.{formOf};
 ghost use Rattle.meaning.specs.ReadExpr.{body, readExpr};
-ghost use Rattle.meaning.specs.ReadType.{head, arrayHead, memberHead};
-ghost use Rattle.bundle.specs.View.{formMeant, stepOf, countOf};
-ghost use Rattle.meaning.specs.ReadType.{readTy, readMember, readMembers, readGroup, readEnum, readArray};
-ghost use Rattle.meaning.specs.ReadBundle.{opening, readDefinition, readEdge, readHeader, readEdges, readRest, readBundle};
-ghost use Rattle.bundle.specs.View.{countsOf};
-ghost use Rattle.bundle.specs.declared.Counts.the-variants.{Each};
-ghost use Rattle.bundle.specs.declared.Step.the-variants.{Next};
-ghost use Rattle.meaning.specs.Reader.{many};
-ghost use mathlib.Core.List.{_∷_, []};
-ghost use Rattle.bundle.specs.View.{Reads};
+ghost use Rattle.meaning.specs.ReadType.{head, arrayHead, memberHead, readTy, readMember, readMembers, readGroup, readEnum, readArray};
+ghost use Rattle.meaning.specs.ReadBundle.{opening, readDefinition, readEdge, readHeader, readEdges};
+ghost use Rattle.meaning.specs.Reader.{many, little, ok};
 ghost use Rattle.meaning.specs.Tree.{typeRef};
-ghost use Rattle.bundle.specs.Definitions.{bundleOf, DefinitionsAt, Table};
-ghost use Rattle.bundle.specs.Circles.{Marks, Decided, TypeToWalk, TypeWalked, MembersToWalk, MembersWalked, GroupToWalk, GroupWalked};
-ghost use Rattle.bundle.specs.Opened.{IsRead, IsOpened, answerMeant};
-ghost use Rattle.meaning.specs.Reader.{little, ok};
 ghost use Rattle.meaning.specs.Lookup.{definitionOf};
 ghost use Rattle.meaning.specs.Circle.{circles};
 ghost use Rattle.meaning.specs.Calls.{acceptance, answerOf};
+ghost use Rattle.bundle.specs.View.{formMeant, stepOf, countOf, countsOf};
+ghost use Rattle.bundle.specs.declared.Counts.the-variants.{Each};
+ghost use Rattle.bundle.specs.Definitions.{bundleOf, DefinitionsAt, Table};
+ghost use Rattle.bundle.specs.Circles.{Marks, Decided, TypeToWalk, TypeWalked, MembersToWalk, MembersWalked, GroupToWalk, GroupWalked};
+ghost use Rattle.bundle.specs.Opened.{IsRead, IsOpened, answerMeant};
 
 // What an expression's kind byte fixes: its body and what follows. A literal has its body length, a field reference its
 // count of names.
@@ -516,8 +511,8 @@ pub fn definition_of(s: &[u8], places: &[u16; 256], count: usize, name: u16) -> 
     i
 }
 
-// Whether every sequence of TypeRefs from definition `i` ends. `marks` has 1 for a definition on the way to this one, 2 for one
-// that is walked, 0 for another.
+// Whether every sequence of TypeRefs from definition `i` ends. `marks` has 0 for a definition that is not walked, 1 for one on the
+// way to this one, 2 for one that is walked.
 fn walk_definition(
     s: &[u8],
     places: &[u16; 256],
