@@ -87,8 +87,8 @@ module _ {d at : ℕ} {s : List ℕ} {f : Form} (o : Opened d at s f) (r : Reads
         size = subst (λ i. Next (g .j) ≡ stepOf (readExpr (d - 1) s i)) (g .parts .start) (g .size);
         reads = g .parts .reads;
         tree =
-          subst (λ i. typeAt d s at ≡ array (g .parts .attributes) (getD s (at + 10) 0) (exprAt (d - 1) s i) (typeAt (d - 1) s (g .j))) (g .parts .start)
-          (g .parts .tree);
+            subst (λ i. typeAt d s at ≡ array (g .parts .attributes) (getD s (at + 10) 0) (exprAt (d - 1) s i) (typeAt (d - 1) s (g .j))) (g .parts .start)
+            (g .parts .tree);
         inside = omega (arith, g .parts .start, g .parts .bound);
       }
 
@@ -122,8 +122,8 @@ module _ (d at : ℕ) (s : List ℕ) (r : Reads (readMember (readTy d) 0x50 s at
       ends = g ∙ sym (member-type (readExpr 0) (readTy d) s at 0x50 i e);
       value = (valueOr (0, 0) (memberHead 0x50 s at)) .1;
       is = λ z.
-        member-value (readTy d) 0x50 s at i e r z (primitive 0)
-        ∙ ap (λ x. member x ((valueOr (0, 0) (memberHead 0x50 s at)) .1) (typeAt d s i)) (member-name 0x50 at i s e ∙ sym n);
+          member-value (readTy d) 0x50 s at i e r z (primitive 0)
+          ∙ ap (λ x. member x ((valueOr (0, 0) (memberHead 0x50 s at)) .1) (typeAt d s i)) (member-name 0x50 at i s e ∙ sym n);
     }
 
 -- the name that a type refers to, by its shape

@@ -110,10 +110,10 @@ module _ {d : ℕ} {s : List ℕ} {count at : ℕ} {byType : Bool} {x left next 
     firsting-next e = record {
       pass = passing-next (c .pass) h g;
       first =
-        ap (λ k. firstShown k count (firstIndex (sought byType x) (fields d s (left - 1) (f .next)))) (omega (arith, c .pass .bound))
-        ∙ sym (first-shift (count - left) count (firstIndex (sought byType x) (fields d s (left - 1) (f .next))))
-        ∙ sym (ap (λ ms. firstShown (count - left) count (firstIndex (sought byType x) (listOf ms))) (passing-tree (c .pass) h g) ∙ rw (← e))
-        ∙ c .first;
+          ap (λ k. firstShown k count (firstIndex (sought byType x) (fields d s (left - 1) (f .next)))) (omega (arith, c .pass .bound))
+          ∙ sym (first-shift (count - left) count (firstIndex (sought byType x) (fields d s (left - 1) (f .next))))
+          ∙ sym (ap (λ ms. firstShown (count - left) count (firstIndex (sought byType x) (listOf ms))) (passing-tree (c .pass) h g) ∙ rw (← e))
+          ∙ c .first;
     }
 
   pub firsting-end : left ≡ 0 → count ≡ firstShown 0 count (firstIndex (sought byType x) (fields d s count at))
@@ -125,10 +125,10 @@ module _ {d : ℕ} {s : List ℕ} {count at : ℕ} {byType : Bool} {x left next 
   lasting-next h {f} g hit q e = record {
     pass = passing-next (c .pass) h g;
     is =
-      ap₂ (λ k z. lastShown k z (lastIndex (sought byType x) (fields d s (left - 1) (f .next)))) (omega (arith, c .pass .bound)) (e ∙ ap (λ t. cond t (count - left + 1) last) q)
-      ∙ sym (last-shift (count - left) last (isSought byType x (f .name) (typeAt d s (f .at))) (lastIndex (sought byType x) (fields d s (left - 1) (f .next))))
-      ∙ sym (ap (λ ms. lastShown (count - left) last (lastIndex (sought byType x) (listOf ms))) (passing-tree (c .pass) h g))
-      ∙ c .is;
+        ap₂ (λ k z. lastShown k z (lastIndex (sought byType x) (fields d s (left - 1) (f .next)))) (omega (arith, c .pass .bound)) (e ∙ ap (λ t. cond t (count - left + 1) last) q)
+        ∙ sym (last-shift (count - left) last (isSought byType x (f .name) (typeAt d s (f .at))) (lastIndex (sought byType x) (fields d s (left - 1) (f .next))))
+        ∙ sym (ap (λ ms. lastShown (count - left) last (lastIndex (sought byType x) (listOf ms))) (passing-tree (c .pass) h g))
+        ∙ c .is;
   }
 
   pub lasting-end : left ≡ 0 → last ≡ lastShown 0 0 (lastIndex (sought byType x) (fields d s count at))

@@ -1,5 +1,5 @@
 -- What the shapes, fields and places that the code answers say of the tree.
-use Prim.Native.Nat.{ℕ, _+_, _-_, _≤_}
+use Prim.Native.Nat.{ℕ, _+_, _-_, _≤_, _<_}
 use mathlib.Core.Bool.{Bool, true, false}
 use mathlib.Core.List.{List}
 use mathlib.Core.Option.{Option, none, some}
@@ -9,13 +9,19 @@ use Rattle.fields.specs.declared.Shape.{Shape}
 use Rattle.fields.specs.declared.Shape.the-variants as shape
 use Rattle.fields.specs.declared.Field.{Field}
 use Rattle.fields.specs.declared.Place.{Place}
+use Rattle.fields.specs.declared.Definition.{Definition}
+use Rattle.fields.specs.declared.Definition.the-variants as definition
+use Rattle.fields.specs.declared.Fields.{Fields}
+use Rattle.fields.specs.declared.Fields.the-variants as fields
+use Rattle.meaning.specs.Lookup.{listOf, definitionOf, findType}
+use Rattle.meaning.specs.Violations.{structOf}
 use Rattle.meaning.specs.Tree.{Attributes, Ty, primitive, typeRef, struct, union, enum, array, sizeUnion, Member, member, Members}
 use Rattle.meaning.specs.Reader.{little}
 use Rattle.meaning.specs.ReadExpr.{readExpr}
 use Rattle.meaning.specs.ReadType.{readTy, readMember, readMembers}
 use Rattle.bundle.specs.declared.Step.the-variants.{Next}
 use Rattle.bundle.specs.View.{stepOf, Reads, valueOr}
-use Rattle.bundle.specs.Definitions.{typeAt, membersAt}
+use Rattle.bundle.specs.Definitions.{typeAt, membersAt, bundleOf}
 use Rattle.bundle.specs.Expressions.{exprAt}
 
 -- a struct of n fields
@@ -79,3 +85,25 @@ pub record FieldAt (d : ℕ) (s : List ℕ) (at : ℕ) (f : Field) : Type 0 wher
 pub record PlacedAt (s places : List ℕ) (i : ℕ) (p : Place) : Type 0 where
   pub at : p .at ≡ getD places i 0
   pub name : p .name ≡ little s (getD places i 0 - 2) 2
+
+-- the first definition of the name x has the number i, and its type stands at a position
+pub record DefinitionIs (s : List ℕ) (n x i at : ℕ) : Type 0 where
+  pub number : i ≡ definitionOf (bundleOf s) x
+  pub below : i < n
+  pub reads : Reads (readTy 24 s at)
+  pub is : findType (bundleOf s) x ≡ some (typeAt 24 s at)
+
+-- what is answered to a search for the first definition of the name x among n
+abbrev pub Defines : List ℕ → ℕ → ℕ → Definition → Type 0
+Defines s n x (definition.At i at) = DefinitionIs s n x i at
+Defines s n x definition.Nowhere = findType (bundleOf s) x ≡ none
+
+-- the first definition of the name x is a struct with n fields at a position
+pub record FieldsAre (s : List ℕ) (x at n : ℕ) : Type 0 where
+  pub reads : Reads (readMembers (readTy 23) 0x50 n s at)
+  pub is : structOf (bundleOf s) x ≡ some (listOf (membersAt 23 0x50 n s at))
+
+-- what is answered to a search for the fields of the first definition of the name x
+abbrev pub FieldsOf : List ℕ → ℕ → Fields → Type 0
+FieldsOf s x (fields.Of at n) = FieldsAre s x at n
+FieldsOf s x fields.No = structOf (bundleOf s) x ≡ none

@@ -171,10 +171,18 @@ pub fn parse_field_reference(s: &[u8], at: usize, current: u16) -> Target
 {
     let n = path_length(s, at);
     if n <= 1 {
-        return Target { name: current, count: n, at: at + 1 };
+        return Target {
+            name: current,
+            count: n,
+            at: at + 1,
+        };
     }
     let name = bundle::u16_at(s, at + 1);
-    Target { name: name, count: n - 1, at: at + 3 }
+    Target {
+        name: name,
+        count: n - 1,
+        at: at + 3,
+    }
 }
 
 // Whether the n names at `p` are those at `q`.
