@@ -1,0 +1,2 @@
+pub mod ChainChecks
+pub mod ForwardChecks
