@@ -36,7 +36,7 @@ mem-below (suc k) i h = go (ℕ-discrete i k) (mem-below k i)
 
 module _ (b : Bundle) where
   -- what the names lead to are definitions
-  resolve-below : (ns : List ℕ) (j : ℕ) → List·Memᴰ j (resolve b ns) → j < count b
+  pub resolve-below : (ns : List ℕ) (j : ℕ) → List·Memᴰ j (resolve b ns) → j < count b
   resolve-below (n ∷ ns) j m = go (ltb (definitionOf b n) (count b)) refl m (resolve-below ns j)
     where
       go : (t : Bool) → ltb (definitionOf b n) (count b) ≡ t → List·Memᴰ j (cond t (definitionOf b n ∷ resolve b ns) (resolve b ns))

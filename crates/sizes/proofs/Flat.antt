@@ -7,10 +7,10 @@ use native.Mathlib.Omega.{arith}
 use mathlib.Core.Path.{_≡_, refl, sym, ap, ap₂, _∙_}
 use mathlib.Core.List.{List, [], _∷_, _++_, append-assoc, append-nil, map, map-append}
 use mathlib.Core.Option.{none as nothing, some}
-use lib.ListN.{length, getD}
+use lib.ListN.{length}
 use Rattle.meaning.specs.Kinds.{ExprForm, Literal, FieldRef, Sizeof, Alignof, Binary, Unary}
 use Rattle.meaning.specs.Kinds.{TypeForm, Primitive, TypeRef, Struct, Union, Enum, Array, SizeUnion}
-use Rattle.meaning.specs.Kinds.{Form, OfExpr, OfType, OfMember, OfRecord, Unknown, formOf}
+use Rattle.meaning.specs.Kinds.{Form, OfExpr, OfType, OfMember, OfRecord, Unknown}
 use Rattle.meaning.specs.Limits.{depthLimit}
 use Rattle.meaning.specs.Reader.{Read, ok, refused, many, namesFrom}
 use Rattle.meaning.specs.ReadExpr.{readExpr, body}
@@ -19,18 +19,20 @@ use Rattle.meaning.specs.References.{collectFieldReferencesRecursive, collectFi
 use Rattle.meaning.specs.Tree.{Attributes, Ty, primitive, Members}
 use Rattle.meaning.proofs.Deeper.{type-deeper}
 use Rattle.bundle.specs.declared.Count.the-variants.{Of}
-use Rattle.bundle.specs.declared.Step.the-variants.{Next, Refused}
+use Rattle.bundle.specs.declared.Step.the-variants.{Next}
 use Rattle.bundle.specs.View.{stepOf, countOf, Reads}
 use Rattle.bundle.specs.Expressions.{exprAt}
 use Rattle.bundle.proofs.ExprLaws.{Opened, literal-ends, fieldRef-ends, sizeof-ends, alignof-ends, unary-ends, binary-ends}
-use Rattle.bundle.proofs.Trees.{expr-deep, expr-there, tree-other, literal-tree, fieldRef-tree, sizeof-tree, alignof-tree, unary-tree, left-reads, right-reads, binary-tree}
+use Rattle.bundle.proofs.Trees.{expr-deep, expr-there, tree-other, literal-tree, fieldRef-tree, sizeof-tree, alignof-tree, unary-tree, left-reads, binary-tree}
 use Rattle.bundle.specs.Definitions.{typeAt, membersAt}
 use Rattle.bundle.proofs.TypeLaws.{primitive-ends, typeRef-ends}
 use Rattle.bundle.proofs.TypeTrees.{type-deep, type-there, no-other, primitive-tree, typeRef-tree}
 use Rattle.sizes.specs.Scan.{also, endOr, exprEnd, typeEnd, recordEnd, namesIn, formAt, pathAt, referencesFrom, pathsFrom, Fits}
 use Rattle.sizes.proofs.ScanLaws.{step, nothing-left}
-use Rattle.sizes.proofs.Heads.{ended-reads, ended, ended-ok, body-where, counted-head, member-where}
-use Rattle.sizes.proofs.Parts.{GroupParts, struct-parts, struct-count, union-parts, union-count, sizeUnion-parts, sizeUnion-count, enum-at, array-at, own-reads, type-reads, others-end, members-tree}
+use Rattle.bundle.proofs.Trees.{ended-reads, ended}
+use Rattle.sizes.proofs.Heads.{ended-ok, body-where, counted-head, member-where}
+use Rattle.bundle.proofs.PartTrees.{member-type-reads, members-split}
+use Rattle.sizes.proofs.Parts.{GroupParts, struct-parts, struct-count, union-parts, union-count, sizeUnion-parts, sizeUnion-count, enum-at, array-at, own-reads, others-end}
 
 -- two ends of the same
 next-same : {m n : ℕ} → Next m ≡ Next n → m ≡ n
@@ -171,10 +173,10 @@ module _ (s : List ℕ) where
           let r = ended-reads (readMembers (readTy d) k n s at) m e in
           let own = ended (memberHead k s at) (own-reads d k s n at l r) in
           let w = member-where k at (own .0) s (own .1) in
-          let type = ended (readTy d s (own .0)) (type-reads d k s n at l r (own .0) (own .1)) in
+          let type = ended (readTy d s (own .0)) (member-type-reads d k s n at l r (own .0) (own .1)) in
           let g = inner (own .0) (type .0) (type .1) in
-          let h = later (type .0) (g .1 .bound) (e ∙ others-end d k s n at l r (own .0) (own .1) (type .0) (type .1)) in
-          rw (members-tree d k s n at l r (own .0) (own .1) (type .0) (type .1))
+          let h = later (type .0) (g .1 .bound) (e ∙ others-end d k s n at l r (own .0) (type .0) (own .1) (type .1)) in
+          rw (members-split d k s n at l r (own .0) (own .1) (type .0) (type .1))
           (both (single at (own .0) (OfMember (w .width)) (w .form) (omega (arith, w .ends)) refl (omega (arith, w .ends)) (w .bound)) (both (g .1) h))
 
     members-flat : (n at m : ℕ) → at ≤ length s → Next m ≡ stepOf (readMembers (readTy d) k n s at) → Flat at m (referencesInMembers (membersAt d k n s at))

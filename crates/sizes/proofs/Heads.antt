@@ -1,5 +1,5 @@
 -- Where the fixed part of a record that was read ended: it lies within the bytes, and has the length of its form.
-use Prim.Native.Nat.{ℕ, suc, _+_, _≤_, _<_}
+use Prim.Native.Nat.{ℕ, _+_, _≤_, _<_}
 use native.Mathlib.Omega.{arith}
 use mathlib.Core.Bool.{Bool, true, false}
 use mathlib.Core.Logic.{_⊎_, inl, inr}
@@ -11,7 +11,7 @@ use borrow.Author.Tests.{eqb-true, eqb-false}
 use Rattle.meaning.specs.Kinds.{Form, OfExpr, OfType, OfMember, OfRecord, Unknown, formOf, SizeUnion}
 use Rattle.meaning.specs.Limits.{depthLimit}
 use Rattle.meaning.specs.Tree.{Ty, primitive}
-use Rattle.meaning.specs.Reader.{Read, ok, refused, Reader, after, due, check, little}
+use Rattle.meaning.specs.Reader.{Read, ok, refused, after, due, check, little}
 use Rattle.meaning.specs.ReadExpr.{body}
 use Rattle.meaning.specs.ReadType.{Head, head, arrayHead, memberHead, readTy}
 use Rattle.meaning.proofs.KindTable.{side}
@@ -22,14 +22,7 @@ use Rattle.bundle.specs.View.{stepOf, countOf, Reads, valueOr}
 use Rattle.sizes.specs.Scan.{endOr, typeEnd}
 use Rattle.bundle.proofs.HeadLaws.{member-short, member-stranger, member-other, member-ends}
 
--- what ended was read, and what was read ended
-pub ended-reads : {A : Type 0} (x : Read A) (m : ℕ) → Next m ≡ stepOf x → Reads x
-ended-reads (ok a n) m e = tt
-ended-reads (refused k) m e = let z : _≡_ {A = ℕ} 0 1 = cc in absurd (omega arith)
-
-pub ended : {A : Type 0} (x : Read A) → Reads x → (m : ℕ) × (Next m ≡ stepOf x)
-ended (ok a m) r = (m, refl)
-
+-- what was read, where it ended
 pub ended-ok : {A : Type 0} (x : Read A) (m : ℕ) (z : A) → Next m ≡ stepOf x → x ≡ ok (valueOr z x) m
 ended-ok (ok a n) m z e = let p : n ≡ m = cc in rw p
 ended-ok (refused k) m z e = let q : _≡_ {A = ℕ} 0 1 = cc in absurd (omega arith)

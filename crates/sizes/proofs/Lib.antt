@@ -6,3 +6,4 @@ pub mod NamesLaws
 pub mod PathLaws
 pub mod PrimitiveLaws
 pub mod ReferenceLaws
+pub mod TestLaws

@@ -1,11 +1,11 @@
 -- A type that was read, taken apart by its form: where its parts start, that they were read, and the tree from their trees.
 use Prim.Native.Nat.{ℕ, zero, suc, _+_, _-_, _≤_, _<_}
 use native.Mathlib.Omega.{arith}
-use mathlib.Core.Path.{_≡_, refl, sym, ap, _∙_}
+use mathlib.Core.Path.{_≡_, refl, ap, _∙_}
 use mathlib.Core.List.{List}
 use lib.ListN.{length, getD}
 use Rattle.meaning.specs.Kinds.{Form, formOf, OfType, Struct, Union, SizeUnion, Enum, Array}
-use Rattle.meaning.specs.Tree.{Attributes, Ty, primitive, struct, union, sizeUnion, enum, array, Member, member, Members, none, more}
+use Rattle.meaning.specs.Tree.{Attributes, Ty, primitive, struct, union, sizeUnion, enum, array, member, Members, none, more}
 use Rattle.meaning.specs.Reader.{many}
 use Rattle.meaning.specs.Lookup.{listOf}
 use Rattle.meaning.specs.ReadExpr.{readExpr}
@@ -13,18 +13,20 @@ use Rattle.meaning.specs.ReadType.{head, arrayHead, memberHead, readMember, rea
 use Rattle.bundle.specs.declared.Form as code
 use Rattle.bundle.specs.declared.Form.the-variants as form
 use Rattle.bundle.specs.declared.TypeForm.{TypeForm}
-use Rattle.bundle.specs.declared.Count.the-variants.{Of, Wrong}
-use Rattle.bundle.specs.declared.Step.the-variants.{Next, Refused}
+use Rattle.bundle.specs.declared.Count.the-variants.{Of}
+use Rattle.bundle.specs.declared.Step.the-variants.{Next}
 use Rattle.bundle.specs.View.{typeFormMeant, formMeant, stepOf, countOf, Reads, valueOr}
 use Rattle.bundle.specs.Definitions.{typeAt, membersAt, zeroGroup}
 use Rattle.bundle.specs.Expressions.{exprAt}
 use Rattle.bundle.proofs.ExprLaws.{Opened}
 use Rattle.bundle.proofs.Steps.{many-more}
-use Rattle.bundle.proofs.Trees.{first-read, refused-no, many-first, many-rest, many-value}
-use Rattle.bundle.proofs.TypeLaws.{struct-ends, union-ends, sizeUnion-ends, enum-ends, array-ends, group-ends, enum-members, array-element, member-type}
+use Rattle.bundle.proofs.PartTrees.{member-type-reads, member-ends, others-read, members-split}
+use Rattle.bundle.proofs.Trees.{first-read, many-first}
+use Rattle.bundle.proofs.TypeLaws.{struct-ends, union-ends, sizeUnion-ends, enum-ends, array-ends, group-ends, enum-members, array-element}
 use Rattle.bundle.proofs.TypeTrees.{type-deep, type-there, zeroHead, struct-reads, struct-tree, union-reads, union-tree, sizeUnion-reads, sizeUnion-tree, enum-reads, enum-tree, array-reads, array-tree}
-use Rattle.bundle.proofs.TypeTrees.{count-no, group-reads, group-value, tag-reads, variants-read, enum-value, size-reads, element-reads, array-value, array-last, member-reads, member-value}
-use Rattle.sizes.proofs.Heads.{ended, counted-head, count-where, array-where}
+use Rattle.bundle.proofs.TypeTrees.{group-reads, group-value, tag-reads, variants-read, enum-value, size-reads, element-reads, array-value, array-last}
+use Rattle.bundle.proofs.Trees.{ended}
+use Rattle.sizes.proofs.Heads.{counted-head, count-where, array-where}
 
 -- the kind byte of a type that was read
 pub type-opened : (d at : ℕ) (s : List ℕ) (f : Form) → Reads (readTy d s at) → f ≡ formOf (getD s at 0) → Opened d at s f
@@ -172,44 +174,17 @@ module _ {d at : ℕ} {s : List ℕ} {f : Form} (o : Opened d at s f) (r : Reads
       let size = ended (readExpr (d - 1) s (c .0)) (size-read o r p (c .0) (c .1)) in
       record { i = c .0; j = size .0; size = size .1; parts = array-parts o r p (c .0) (c .1) (size .0) (size .1) }
 
--- a member with nothing in it, for where none was read
-abbrev zeroMember : Member
-zeroMember = member 0 0 (primitive 0)
-
 -- the first of n members of kind k that were read at `at`
 module _ (d k : ℕ) (s : List ℕ) (n at : ℕ) (h : 0 < n) (r : Reads (readMembers (readTy d) k n s at)) where
-  first-member : Reads (readMember (readTy d) k s at)
-  first-member = many-first more none (readMember (readTy d) k) s zeroMember n at h r
-
   -- its own record was read
   pub own-reads : Reads (memberHead k s at)
   unfolding readMember
-  own-reads = first-read s _ (memberHead k s at) first-member
+  own-reads = first-read s _ (memberHead k s at) (many-first more none (readMember (readTy d) k) s (member 0 0 (primitive 0)) n at h r)
 
-  pub own-no : (q : ℕ) → Refused q ≡ stepOf (memberHead k s at) → ⊥
-  own-no q e = refused-no (memberHead k s at) q own-reads (sym e)
-
-  -- its type stands at i
-  module _ (i : ℕ) (e : Next i ≡ stepOf (memberHead k s at)) where
-    pub type-reads : Reads (readTy d s i)
-    type-reads = member-reads (readTy d) k s at i e first-member
-
-    -- and ended at j
-    module _ (j : ℕ) (g : Next j ≡ stepOf (readTy d s i)) where
-      ends : Next j ≡ stepOf (readMember (readTy d) k s at)
-      ends = g ∙ sym (member-type (readExpr 0) (readTy d) s at k i e)
-
-      pub others-read : Reads (readMembers (readTy d) k (n - 1) s j)
-      others-read = many-rest more none (readMember (readTy d) k) s zeroMember n at j h ends r
-
-      pub others-end : stepOf (readMembers (readTy d) k n s at) ≡ stepOf (readMembers (readTy d) k (n - 1) s j)
-      others-end = many-more more none (readMember (readTy d) k) s n at j h ends
-
-      pub members-tree : (let own = valueOr (0, 0) (memberHead k s at) in
-          membersAt d k n s at ≡ more (member (own .0) (own .1) (typeAt d s i)) (membersAt d k (n - 1) s j))
-      members-tree =
-          many-value more none (readMember (readTy d) k) s zeroMember n at j h ends r
-          ∙ ap (λ m. more m (membersAt d k (n - 1) s j)) (member-value (readTy d) k s at i e first-member zeroMember (primitive 0))
+  -- its type stands at i and ended at j
+  pub others-end : (i j : ℕ) → Next i ≡ stepOf (memberHead k s at) → Next j ≡ stepOf (readTy d s i)
+      → stepOf (readMembers (readTy d) k n s at) ≡ stepOf (readMembers (readTy d) k (n - 1) s j)
+  others-end i j e g = many-more more none (readMember (readTy d) k) s n at j h (member-ends d k s n at h r i e j g)
 
 -- no member
 pub members-none : (d k : ℕ) (s : List ℕ) (n at : ℕ) → n ≡ 0 → membersAt d k n s at ≡ none
@@ -222,8 +197,8 @@ members-length d k s zero at r = ap (λ ms. length (listOf ms)) (members-none d 
 members-length d k s (suc n) at r =
     let h : 0 < suc n = omega arith in
     let own = ended (memberHead k s at) (own-reads d k s (suc n) at h r) in
-    let type = ended (readTy d s (own .0)) (type-reads d k s (suc n) at h r (own .0) (own .1)) in
+    let type = ended (readTy d s (own .0)) (member-type-reads d k s (suc n) at h r (own .0) (own .1)) in
     let q : suc n - 1 ≡ n = omega arith in
     let rest : Reads (readMembers (readTy d) k n s (type .0)) = rw q at (others-read d k s (suc n) at h r (own .0) (own .1) (type .0) (type .1)) in
-    ap (λ ms. length (listOf ms)) (members-tree d k s (suc n) at h r (own .0) (own .1) (type .0) (type .1))
+    ap (λ ms. length (listOf ms)) (members-split d k s (suc n) at h r (own .0) (own .1) (type .0) (type .1))
     ∙ ap suc (ap (λ i. length (listOf (membersAt d k i s (type .0)))) q ∙ members-length d k s n (type .0) rest)

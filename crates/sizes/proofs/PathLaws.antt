@@ -10,7 +10,7 @@ use mathlib.Core.List.{List, [], _∷_, map}
 use lib.Dec.{eqb}
 use lib.ListN.{length}
 use borrow.Author.Tests.{eq-eqb, ne-eqb}
-use Rattle.meaning.specs.Kinds.{Form, OfExpr, OfType, OfMember, OfRecord, Unknown, ExprForm, Literal, FieldRef, Sizeof, Alignof, Binary, Unary}
+use Rattle.meaning.specs.Kinds.{Form, OfExpr, OfType, OfMember, OfRecord, Unknown, Literal, FieldRef, Sizeof, Alignof, Binary, Unary}
 use Rattle.meaning.specs.Lists.{any, sameList}
 use Rattle.meaning.specs.Lookup.{Target, parseFieldReference}
 use Rattle.meaning.specs.Reader.{little, namesFrom}

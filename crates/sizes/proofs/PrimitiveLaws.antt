@@ -3,7 +3,7 @@ use Prim.Native.Nat.{ℕ, zero, suc, _+_, _-_, _≤_, _<_}
 use native.Mathlib.Nat.{not-suc-le-zero, le-of-suc-le-suc, eq-or-lt-of-le}
 use native.Mathlib.Omega.{arith}
 use mathlib.Core.Bool.{Bool, true, false, not, _&&_, _||_}
-use mathlib.Core.Logic.{⊎-elim, _⊎_}
+use mathlib.Core.Logic.{⊎-elim}
 use mathlib.Core.Option.{Option, none as nothing, some}
 use mathlib.Core.Path.{_≡_, refl, sym, ap, _∙_}
 use mathlib.Core.List.{List, [], _∷_}
@@ -15,12 +15,10 @@ use borrow.Author.Tests.{eq-eqb, ne-eqb}
 use Rattle.meaning.specs.Kinds.{Form, OfType, Primitive, formOf, lookup}
 use Rattle.meaning.specs.Kinds as kinds
 use Rattle.meaning.specs.Lists.{all, holds}
-use Rattle.meaning.specs.Lookup.{listOf, memberType, asPrimitive}
-use Rattle.meaning.specs.Reader.{many}
-use Rattle.meaning.specs.ReadExpr.{readExpr}
-use Rattle.meaning.specs.ReadType.{memberHead, readMember, readMembers, readTy}
+use Rattle.meaning.specs.Lookup.{listOf, asPrimitive}
+use Rattle.meaning.specs.ReadType.{memberHead, readMembers, readTy}
 use Rattle.meaning.specs.Sizes.{getPrimitiveSize, hasSize, oneSize, constantSizeVariants, isEnumWithConstantSizeVariants}
-use Rattle.meaning.specs.Tree.{Ty, primitive, Member, member, Members, none, more}
+use Rattle.meaning.specs.Tree.{primitive, Member, member, more}
 use Rattle.bundle.specs.declared.TypeForm.{TypeForm}
 use Rattle.bundle.specs.declared.TypeForm.the-variants as code
 use Rattle.bundle.specs.declared.Step.the-variants.{Next}
@@ -31,8 +29,9 @@ use Rattle.bundle.proofs.TypeForm.{the-type}
 use Rattle.bundle.proofs.TypeLaws.{primitive-ends}
 use Rattle.bundle.proofs.TypeTrees.{type-deep, type-there, no-other, primitive-tree, typeRef-tree, struct-tree, union-tree, sizeUnion-tree}
 use Rattle.meaning.proofs.KindTable.{and-0, and-1}
-use Rattle.sizes.proofs.Heads.{ended}
-use Rattle.sizes.proofs.Parts.{EnumParts, members-length, enum-at, array-at, type-reads, others-read, members-tree, members-none}
+use Rattle.bundle.proofs.Trees.{ended}
+use Rattle.bundle.proofs.PartTrees.{member-type-reads, others-read, members-split}
+use Rattle.sizes.proofs.Parts.{EnumParts, members-length, enum-at, array-at, members-none}
 use Rattle.sizes.specs.declared.Size.the-variants.{Bytes, Other}
 use Rattle.sizes.specs.Paths.{sizeShown}
 
@@ -146,7 +145,7 @@ shown-other test (some k) e = let z : _≡_ {A = ℕ} 0 1 = cc in absurd (omega 
 -- the first of n variants that were read at `at`, whose type stands at i
 module _ (d : ℕ) (s : List ℕ) (n at : ℕ) (h : 0 < n) (r : Reads (readMembers (readTy d) 0x52 n s at)) (i : ℕ) (e : Next i ≡ stepOf (memberHead 0x52 s at)) where
   t-reads : Reads (readTy d s i)
-  t-reads = type-reads d 0x52 s n at h r i e
+  t-reads = member-type-reads d 0x52 s n at h r i e
 
   -- it is a primitive of w bytes
   module _ (w : ℕ) (q : Bytes w ≡ sizeShown (asPrimitive (typeAt d s i))) where
@@ -158,7 +157,7 @@ module _ (d : ℕ) (s : List ℕ) (n at : ℕ) (h : 0 < n) (r : Reads (readMembe
 
     all-first : (size : ℕ) → all (hasSize size) (listOf (membersAt d 0x52 n s at)) ≡ (eqb w size && all (hasSize size) (listOf (membersAt d 0x52 (n - 1) s (i + 1))))
     all-first size =
-        rw (members-tree d 0x52 s n at h r i e (i + 1) g)
+        rw (members-split d 0x52 s n at h r i e (i + 1) g)
         (ap (λ x. x && all (hasSize size) (listOf (membersAt d 0x52 (n - 1) s (i + 1)))) (shown-holds (λ v. eqb v size) w (asPrimitive (typeAt d s i)) q))
 
     pub all-later : (size : ℕ) → w ≡ size → all (hasSize size) (listOf (membersAt d 0x52 (n - 1) s (i + 1))) ≡ all (hasSize size) (listOf (membersAt d 0x52 n s at))
@@ -169,7 +168,7 @@ module _ (d : ℕ) (s : List ℕ) (n at : ℕ) (h : 0 < n) (r : Reads (readMembe
 
     pub one-is : all (hasSize w) (listOf (membersAt d 0x52 n s at)) ≡ oneSize (listOf (membersAt d 0x52 n s at))
     one-is =
-        let tree = members-tree d 0x52 s n at h r i e (i + 1) g in
+        let tree = members-split d 0x52 s n at h r i e (i + 1) g in
         let own = valueOr (0, 0) (memberHead 0x52 s at) in
         let ms = listOf (more (member (own .0) (own .1) (typeAt d s i)) (membersAt d 0x52 (n - 1) s (i + 1))) in
         rw tree (sym (shown-holds (λ v. all (hasSize v) ms) w (asPrimitive (typeAt d s i)) q))
@@ -179,12 +178,12 @@ module _ (d : ℕ) (s : List ℕ) (n at : ℕ) (h : 0 < n) (r : Reads (readMembe
     pub all-other : (size : ℕ) → all (hasSize size) (listOf (membersAt d 0x52 n s at)) ≡ false
     all-other size =
         let j = ended (readTy d s i) t-reads in
-        rw (members-tree d 0x52 s n at h r i e (j .0) (j .1), shown-other (λ k. eqb (getPrimitiveSize k) size) (asPrimitive (typeAt d s i)) q)
+        rw (members-split d 0x52 s n at h r i e (j .0) (j .1), shown-other (λ k. eqb (getPrimitiveSize k) size) (asPrimitive (typeAt d s i)) q)
 
     pub one-other : oneSize (listOf (membersAt d 0x52 n s at)) ≡ false
     one-other =
         let j = ended (readTy d s i) t-reads in
-        rw (members-tree d 0x52 s n at h r i e (j .0) (j .1)) (shown-other _ (asPrimitive (typeAt d s i)) q)
+        rw (members-split d 0x52 s n at h r i e (j .0) (j .1)) (shown-other _ (asPrimitive (typeAt d s i)) q)
 
 -- no variant
 pub all-none : (d : ℕ) (s : List ℕ) (n at size : ℕ) → n ≡ 0 → all (hasSize size) (listOf (membersAt d 0x52 n s at)) ≡ true

@@ -4,7 +4,7 @@ use native.Mathlib.Omega.{arith}
 use mathlib.Core.Bool.{Bool, true, false, _&&_}
 use mathlib.Core.Path.{_≡_, refl, sym, ap, ap₂, subst, _∙_}
 use mathlib.Core.List.{List, [], _∷_, _++_, map}
-use lib.ListN.{length, getD}
+use lib.ListN.{length}
 use Rattle.meaning.specs.Kinds.{Form, OfType, TypeForm, Primitive, TypeRef, Struct, Union, Enum, Array, SizeUnion}
 use Rattle.meaning.specs.Limits.{depthLimit}
 use Rattle.meaning.specs.Lists.{any, sameList}
@@ -22,7 +22,7 @@ use Rattle.bundle.proofs.Trees.{refused-no}
 use Rattle.bundle.proofs.TypeTrees.{primitive-tree, typeRef-tree, struct-tree, union-tree, sizeUnion-tree}
 use Rattle.sizes.specs.declared.Found.the-variants.{At, Nothing}
 use Rattle.sizes.specs.Scan.{pathAt, referencesFrom, pathsFrom, foundOf, Fits}
-use Rattle.sizes.proofs.Heads.{ended-reads}
+use Rattle.bundle.proofs.Trees.{ended-reads}
 use Rattle.sizes.proofs.Parts.{enum-at, array-at}
 use Rattle.sizes.proofs.Flat.{expr-flat, type-flat, whole, whole-fits}
 

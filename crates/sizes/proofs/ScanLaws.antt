@@ -1,10 +1,9 @@
 -- Going over the records of a run of bytes, one after another.
-use Prim.Native.Nat.{ℕ, zero, suc, _+_, _-_, _*_, _≤_, _<_}
+use Prim.Native.Nat.{ℕ, zero, suc, _-_, _≤_, _<_}
 use native.Mathlib.Omega.{arith}
 use mathlib.Core.Logic.{_⊎_, inl, inr}
 use mathlib.Core.Path.{_≡_, refl, sym, ap, _∙_}
-use mathlib.Core.List.{List, [], _∷_}
-use lib.ListN.{length, getD}
+use mathlib.Core.List.{List, []}
 use borrow.Author.Tests.{lt-ltb, le-ltb}
 use Rattle.meaning.proofs.KindTable.{side}
 use Rattle.sizes.specs.Scan.{also, formAt, recordEnd, namesIn, positions, referencesFrom}

@@ -11,7 +11,7 @@ use Rattle.meaning.specs.Sizes.{hasSize}
 use Rattle.bundle.specs.View.{Reads}
 use Rattle.bundle.specs.Definitions.{membersAt}
 use Rattle.bundle.proofs.TypeTrees.{type-there}
-use Rattle.sizes.proofs.Parts.{own-no, type-reads}
+use Rattle.bundle.proofs.PartTrees.{head-no, member-type-reads}
 use Rattle.sizes.proofs.PrimitiveLaws.{variants-read, all-later, all-not, all-other, all-none}
 
 abbrev Inv-loop : tie.InvT-loop
@@ -33,10 +33,10 @@ enum-told : tie.Need-enum-told Inv-loop μ-loop
 enum-told c = search needs
 
 returns : tie.Need-returns Inv-loop μ-loop
-returns c = absurd (own-no _ 0x52 _ _ _ (c .before .before .before .loop-test .taken) (c .before .before .before .before .loop .inv .0) _ (sym (c .enum-told .given .1) ∙ c .before .before .member-head-at .ensures))
+returns c = absurd (head-no _ 0x52 _ _ _ (c .before .before .before .loop-test .taken) (c .before .before .before .before .loop .inv .0) _ (sym (c .enum-told .given .1) ∙ c .before .before .member-head-at .ensures))
 
 primitive-at-requires : tie.Need-primitive-at-requires Inv-loop μ-loop
-primitive-at-requires c κs = (type-reads _ 0x52 _ _ _ (c .before .before .before .before .loop-test .taken) (c .before .before .before .before .before .loop .inv .0) _ (sym (c .before .head .given .1) ∙ c .before .before .before .member-head-at .ensures))
+primitive-at-requires c κs = (member-type-reads _ 0x52 _ _ _ (c .before .before .before .before .loop-test .taken) (c .before .before .before .before .before .loop .inv .0) _ (sym (c .before .head .given .1) ∙ c .before .before .before .member-head-at .ensures))
 
 enum-known-found : tie.Need-enum-known-found Inv-loop μ-loop
 enum-known-found c = search needs
@@ -51,7 +51,7 @@ returns-3 : tie.Need-returns-3 Inv-loop μ-loop
 returns-3 c = sym (sym (c .before .before .before .before .before .before .before .before .before .before .loop .inv .1) ∙ all-not _ _ _ _ (c .before .before .before .before .before .before .before .before .before .loop-test .taken) (c .before .before .before .before .before .before .before .before .before .before .loop .inv .0) _ (sym (c .before .before .before .before .before .before .head .given .1) ∙ c .before .before .before .before .before .before .before .before .member-head-at .ensures) _ (sym (c .before .before .found .given .1) ∙ c .before .before .before .before .primitive-at .ensures) _ (c .if1 .taken))
 
 add-next : tie.Need-add-next Inv-loop μ-loop
-add-next c = omega (arith, type-there _ _ _ (type-reads _ 0x52 _ _ _ (c .before .before .before .before .before .before .before .before .before .loop-test .taken) (c .before .before .before .before .before .before .before .before .before .before .loop .inv .0) _ (sym (c .before .before .before .before .before .before .head .given .1) ∙ c .before .before .before .before .before .before .before .before .member-head-at .ensures)))
+add-next c = omega (arith, type-there _ _ _ (member-type-reads _ 0x52 _ _ _ (c .before .before .before .before .before .before .before .before .before .loop-test .taken) (c .before .before .before .before .before .before .before .before .before .before .loop .inv .0) _ (sym (c .before .before .before .before .before .before .head .given .1) ∙ c .before .before .before .before .before .before .before .before .member-head-at .ensures)))
 
 sub-left : tie.Need-sub-left Inv-loop μ-loop
 sub-left c = search needs

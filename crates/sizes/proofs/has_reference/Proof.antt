@@ -4,7 +4,7 @@ use Rattle.sizes.proofs.has_reference.Tie as tie
 use borrow.Author.Needs.{needs}
 use Prim.Native.Nat.{_-_}
 use native.Mathlib.Omega.{arith}
-use mathlib.Core.Path.{_≡_, refl, sym, subst, _∙_}
+use mathlib.Core.Path.{_≡_, refl, sym, _∙_}
 use Rattle.meaning.specs.Lists.{any, sameList}
 use Rattle.sizes.specs.Scan.{pathAt, referencesFrom, pathsFrom, Fits}
 use Rattle.sizes.proofs.PathLaws.{found-split, split-fit, split-fits, any-here, any-later, any-none, any-over}

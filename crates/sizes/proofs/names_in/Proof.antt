@@ -4,7 +4,6 @@ use Rattle.sizes.proofs.names_in.Statement.{statement}
 use Rattle.sizes.proofs.names_in.Tie as tie
 use mathlib.Core.Path.{sym}
 use Rattle.bundle.specs.View.{exprFormMeant, formMeant}
-use Rattle.bundle.proofs.Forms.{not-expr}
 use Rattle.sizes.specs.Scan.{namesIn}
 use Rattle.sizes.proofs.NamesLaws.{no-names}
 

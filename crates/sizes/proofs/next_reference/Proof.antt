@@ -4,7 +4,6 @@ use Rattle.sizes.proofs.next_reference.Tie as tie
 use borrow.Author.Needs.{needs}
 use Prim.Native.Nat.{_-_}
 use mathlib.Core.Path.{_≡_, refl, sym, ap, _∙_}
-use native.Mathlib.Omega.{arith}
 use Rattle.sizes.specs.Scan.{referencesFrom, foundOf}
 use Rattle.sizes.proofs.NamesLaws.{step-found, step-other, step-none, step-less}
 

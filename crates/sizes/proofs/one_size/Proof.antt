@@ -4,7 +4,7 @@ use Rattle.sizes.proofs.one_size.Statement.{statement}
 use Rattle.sizes.proofs.one_size.Tie as tie
 use native.Mathlib.Omega.{arith}
 use mathlib.Core.Path.{sym, _∙_}
-use Rattle.sizes.proofs.Parts.{own-no, type-reads}
+use Rattle.bundle.proofs.PartTrees.{head-no, member-type-reads}
 use Rattle.sizes.proofs.PrimitiveLaws.{one-is, one-other, one-none}
 
 returns : tie.Need-returns
@@ -20,10 +20,10 @@ enum-told : tie.Need-enum-told
 enum-told c = search needs
 
 returns-2 : tie.Need-returns-2
-returns-2 c = absurd (own-no _ 0x52 _ _ _ (omega arith) (c .before .before .before .before .before .pre) _ (sym (c .enum-told .given .1) ∙ c .before .before .member-head-at .ensures))
+returns-2 c = absurd (head-no _ 0x52 _ _ _ (omega arith) (c .before .before .before .before .before .pre) _ (sym (c .enum-told .given .1) ∙ c .before .before .member-head-at .ensures))
 
 primitive-at-requires : tie.Need-primitive-at-requires
-primitive-at-requires c κs = type-reads _ 0x52 _ _ _ (omega arith) (c .before .before .before .before .before .before .pre) _ (sym (c .before .head .given .1) ∙ c .before .before .before .member-head-at .ensures)
+primitive-at-requires c κs = member-type-reads _ 0x52 _ _ _ (omega arith) (c .before .before .before .before .before .before .pre) _ (sym (c .before .head .given .1) ∙ c .before .before .before .member-head-at .ensures)
 
 enum-known-found : tie.Need-enum-known-found
 enum-known-found c = search needs

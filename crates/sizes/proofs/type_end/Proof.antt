@@ -2,7 +2,7 @@
 use borrow.Author.Needs.{needs}
 use Rattle.sizes.proofs.type_end.Statement.{statement}
 use Rattle.sizes.proofs.type_end.Tie as tie
-use mathlib.Core.Path.{_≡_, sym, _∙_}
+use mathlib.Core.Path.{sym, _∙_}
 use Rattle.bundle.specs.View.{typeFormMeant}
 use Rattle.sizes.specs.Scan.{typeEnd}
 use Rattle.sizes.proofs.Heads.{union-next, union-refused}

@@ -6,7 +6,6 @@ use native.Mathlib.Omega.{arith}
 use mathlib.Core.Path.{sym, _∙_}
 use Rattle.meaning.specs.Kinds.{Primitive, TypeRef, Struct, Union, Enum, Array, SizeUnion}
 use Rattle.bundle.proofs.Forms.{not-type, primitive-meant, typeRef-meant, struct-meant, union-meant, enum-meant, array-meant, sizeUnion-meant}
-use Rattle.bundle.proofs.Trees.{expr-there}
 use Rattle.bundle.proofs.TypeTrees.{type-deep, type-there, no-other}
 use Rattle.sizes.proofs.Parts.{type-opened}
 use Rattle.sizes.proofs.ReferenceLaws.{tag-there, size-there, needs-by}

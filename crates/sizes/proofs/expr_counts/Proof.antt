@@ -1,0 +1,17 @@
+-- `sizes::expr_counts` meets its contract. Assumes nothing.
+use Rattle.sizes.proofs.expr_counts.Statement.{statement}
+use Rattle.sizes.proofs.expr_counts.Tie as tie
+use mathlib.Core.Bool.{not}
+use mathlib.Core.Path.{ap}
+
+returns : tie.Need-returns
+returns c = rw (c .if1 .taken)
+
+is-constant-requires : tie.Need-is-constant-requires
+is-constant-requires c κs = (c .before .before .pre .1, c .before .before .pre .0)
+
+returns-2 : tie.Need-returns-2
+returns-2 c = rw (c .before .if1 .left) (ap not (c .is-constant .ensures))
+
+pub expr-counts-spec : {M : Type 1} → statement M
+expr-counts-spec = tie.close (tie.spec returns is-constant-requires returns-2)
