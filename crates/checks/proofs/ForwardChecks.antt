@@ -1,7 +1,7 @@
 -- References to fields of one struct: type 1, and the search for type 4.
 use Prim.Native.Nat.{ℕ, zero, suc, _+_, _-_, _*_, _≤_, _<_}
 use native.Mathlib.Omega.{arith}
-use mathlib.Core.Bool.{Bool, true, false, not, cond, _&&_, _||_}
+use mathlib.Core.Bool.{Bool, true, false, not, cond, _&&_, _||_, false≢true}
 use mathlib.Core.Option.{Option, none, some, Option·map}
 use mathlib.Core.Path.{_≡_, refl, sym, ap, ap₂, subst, _∙_}
 use mathlib.Core.List.{List, [], _∷_, _++_}
@@ -114,6 +114,22 @@ module _ (s : List ℕ) (p n j x : ℕ) (t : Ty) (e : x ≡ typePart s p) where
               go : (r : Bool) → r ≡ (r && true)
               go true = refl
               go false = refl
+
+-- the field part of a forward reference is one name
+pub part-forward : (s : List ℕ) (p n j : ℕ) (t : Ty) → isForward (bundleOf s) n j t (pathAt s p) ≡ true → length (targetAt s p .field) ≡ 1
+unfolding isLaterField
+part-forward s p n j t e = go (targetAt s p .field) refl
+  where
+    no : (length (targetAt s p .field) ≡ 1 → ⊥) → ⊥
+    no ne =
+        let field = targetAt s p .field in
+        let a = holds-no (standsAfter j field) (λ ms. ap (holds (ltb j)) (no-first field ne ms)) (structOf (bundleOf s) n) in
+        false≢true (sym (rw (a, and-false (eqb (typePart s p) n))) ∙ e)
+
+    go : (field : List ℕ) → targetAt s p .field ≡ field → length (targetAt s p .field) ≡ 1
+    go [] q = absurd (no (λ z. let w : _≡_ {A = ℕ} 0 1 = sym (ap length q) ∙ z in omega arith))
+    go (f ∷ []) q = ap length q
+    go (f ∷ g ∷ gs) q = absurd (no (λ z. let w = sym (ap length q) ∙ z in omega arith))
 
 -- an answer that a `let .. else` has taken apart
 pub reference-is : (s : List ℕ) (at end : ℕ) {r : Reference} {p after : ℕ} → r ≡ reference.At p after → Referred s at end r → ReferenceIs s at end p after

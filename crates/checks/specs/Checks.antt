@@ -7,13 +7,14 @@ use mathlib.Core.Path.{_≡_}
 use lib.Dec.{eqb}
 use lib.ListN.{length, getD, take}
 use Rattle.meaning.specs.Limits.{edgeLimit, definitionLimit}
-use Rattle.meaning.specs.Lists.{holds}
+use Rattle.meaning.specs.Lists.{holds, findMap}
 use Rattle.meaning.specs.Lookup.{Target, parseFieldReference}
 use Rattle.meaning.specs.Lookup as lookup
 use Rattle.meaning.specs.Sizes.{namedSizeDepends, isEnumWithConstantSizeVariants}
+use Rattle.meaning.specs.References.{collectFieldReferencesInTypeKind}
 use Rattle.meaning.specs.Tree.{Ty, Bundle}
 use Rattle.meaning.specs.Violations.{Violation, violation, enumForward, enumCycle, arrayCycle, fieldForward, variableElement, jaggedReference, jaggedInline, nestedJagged}
-use Rattle.meaning.specs.Violations.{isLaterField, typeNeedsFieldRefForLayout}
+use Rattle.meaning.specs.Violations.{isLaterField, typeNeedsFieldRefForLayout, checkForwardReference}
 use Rattle.bundle.specs.declared.Layout.{Layout}
 use Rattle.bundle.specs.Definitions.{bundleOf, EdgesFrom}
 use Rattle.sizes.specs.Paths.{Fit}
@@ -124,3 +125,19 @@ FitIn s (At p) = Fit s p
 pub record Forwarded (s : List ℕ) (n j : ℕ) (t : Ty) (ps : List ℕ) (r : found.Found) : Type 0 where
   pub first : r ≡ positionShown (find (λ p. isForward (bundleOf s) n j t (pathAt s p)) ps)
   pub fit : FitIn s r
+
+-- what is found of definition i of the name n, in its field f, by the reference at a position
+abbrev pub forwardAt : List ℕ → ℕ → ℕ → ℕ → found.Found → Option Violation
+forwardAt s i n f Nothing = none
+forwardAt s i n f (At p) = some (violation fieldForward i n (pathAt s p) (n ∷ f ∷ targetAt s p .field))
+
+-- the field part of the reference at a position is one name
+abbrev pub OneField : List ℕ → found.Found → Type 0
+OneField s Nothing = Unit {0}
+OneField s (At p) = length (targetAt s p .field) ≡ 1
+
+-- r is the position of the first forward reference in the type t
+pub record ForwardIn (s : List ℕ) (n j : ℕ) (t : Ty) (r : found.Found) : Type 0 where
+  pub first : (i f : ℕ) → findMap (checkForwardReference (bundleOf s) i n j f t) (collectFieldReferencesInTypeKind t) ≡ forwardAt s i n f r
+  pub fit : FitIn s r
+  pub one : OneField s r

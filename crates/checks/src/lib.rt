@@ -5,24 +5,26 @@ use fields::Definition;
 use fields::Field;
 use fields::Shape;
 ghost use mathlib.Core.Path.{_≡_};
-ghost use mathlib.Core.Bool.{not, _&&_, _||_};
+ghost use mathlib.Core.Bool.{true, false, not};
 ghost use mathlib.Core.List.{[], _∷_};
 ghost use Prim.Native.Nat.{ℕ, _+_, _*_, _≤_, _<_};
 ghost use lib.ListN.{length, drop};
 ghost use Rattle.meaning.specs.Limits.{sizeLimit};
 ghost use Rattle.meaning.specs.Lists.{holds};
-ghost use Rattle.meaning.specs.Lookup.{findType};
-ghost use Rattle.meaning.specs.Sizes.{namedSizeDepends, isEnumWithConstantSizeVariants};
+ghost use Rattle.meaning.specs.Lookup.{findType, isStruct};
+ghost use Rattle.meaning.specs.Sizes.{namedSizeDepends};
 ghost use Rattle.meaning.specs.Tree.{member};
 ghost use Rattle.meaning.specs.ReadType.{readTy};
-ghost use Rattle.meaning.specs.Violations.{findLayoutDependencyChain, checkEnumForwardReferenceInSameStruct, checkEnumTagLayoutCycle, checkArraySizeLayoutCycle, checkFieldLayoutDependency, typeNeedsFieldRefForLayout, isLaterField};
+ghost use Rattle.meaning.specs.Violations.{checkJaggedElementKind, checkJaggedArrayConstraints, checkArrayElementTypeSize};
+ghost use Rattle.meaning.specs.Violations.{findLayoutDependencyChain, checkEnumForwardReferenceInSameStruct, checkEnumTagLayoutCycle, checkArraySizeLayoutCycle, checkFieldLayoutDependency};
 ghost use Rattle.bundle.specs.View.{Reads};
 ghost use Rattle.bundle.specs.Definitions.{typeAt, bundleOf, Table};
 ghost use Rattle.bundle.specs.Opened.{LayoutOf};
 ghost use Rattle.chain.specs.Found.{Answers};
 ghost use Rattle.sizes.specs.Paths.{Fit};
-ghost use Rattle.sizes.specs.Scan.{pathAt, referencesFrom, pathsFrom, Fits};
-ghost use Rattle.checks.specs.Checks.{targetAt, typePart, PartOf, Checked, GraphOf, Known, Referred, isForward, Forwarded};
+ghost use Rattle.sizes.specs.Scan.{pathAt, referencesFrom, Fits};
+ghost use Rattle.sizes.specs.Tests.{Acyclic, Kept};
+ghost use Rattle.checks.specs.Checks.{targetAt, typePart, PartOf, Checked, GraphOf, Known, Referred, isForward, Forwarded, ForwardIn};
 
 // What a check finds: nothing, or a violation by its type. The chain stands beside it in a lent list.
 pub enum Check {
@@ -252,4 +254,166 @@ fn find_forward_reference(
         next = after;
     }
     sizes::Found::Nothing
+}
+
+// The first such reference in the whole definition at `at`.
+fn find_forward(
+    s: &[u8],
+    places: &[u16; 256],
+    layout: Layout,
+    name: u16,
+    j: usize,
+    at: usize,
+    depends: bool,
+) -> sizes::Found
+    requires { ⌜ LayoutOf (now s) layout (now places) × Reads (readTy 24 (now s) at) × (depends ≡ namedSizeDepends (bundleOf (now s)) (typeAt 24 (now s) at)) ⌝ }
+    ensures { λ r. ⌜ ForwardIn (now (s .entry)) name j (typeAt 24 (now (s .entry)) at) r ⌝ }
+{
+    let step = bundle::type_at(s, at, 24);
+    match step {
+        bundle::Step::Next(end) => find_forward_reference(s, places, layout, name, j, at, depends, at, end),
+        bundle::Step::Refused(_) => sizes::Found::Nothing,
+    }
+}
+
+// Type 4, for the field at index `j` of the struct: the first reference to a later field in the definition to which the field's
+// type, a TypeRef, leads.
+pub fn check_field_layout_dependency(
+    s: &[u8],
+    places: &[u16; 256],
+    layout: Layout,
+    known: &[u8; 256],
+    name: u16,
+    j: usize,
+    field: Field,
+    list: &mut [u16],
+) -> Check
+    requires { ⌜ LayoutOf (now s) layout (now places) × Known (now s) (layout .definitions) (now known) ⌝ }
+    requires { ⌜ Reads (readTy 23 (now s) (field .at)) × (1025 ≤ length (now list)) ⌝ }
+    ensures { λ r. ⌜ ((v : ℕ) → Checked (now (s .entry)) name (now (list .exit)) r (λ i. checkFieldLayoutDependency (bundleOf (now (s .entry))) i name (j, member (field .name) v (typeAt 23 (now (s .entry)) (field .at))))) ⌝ }
+{
+    let count = layout.definitions;
+    let shape = fields::shape_at(s, field.at, 23);
+    let Shape::TypeRef(n) = shape else {
+        return Check::Fine;
+    };
+    let found = fields::find_definition(s, places, count, n);
+    let Definition::At(i, at) = found else {
+        return Check::Fine;
+    };
+    let forward = find_forward(s, places, layout, name, j, at, known[i] == 2);
+    let sizes::Found::At(p) = forward else {
+        return Check::Fine;
+    };
+    let part = field_part(s, p);
+    let Part::One(later) = part else {
+        return Check::Fine;
+    };
+    set_chain(list, name, field.name, later);
+    Check::FieldForward(p)
+}
+
+// Whether the first definition of the name is there and is no struct.
+fn is_no_struct(s: &[u8], places: &[u16; 256], count: usize, name: u16) -> bool
+    requires { ⌜ Table (now s) count (now places) ⌝ }
+    ensures { λ r. ⌜ r ≡ holds (λ t. not (isStruct t)) (findType (bundleOf (now (s .entry))) name) ⌝ }
+{
+    let found = fields::find_definition(s, places, count, name);
+    let Definition::At(_, at) = found else {
+        return false;
+    };
+    let shape = fields::shape_at(s, at, 24);
+    let Shape::Struct(_) = shape else {
+        return true;
+    };
+    false
+}
+
+// Types 6 and 7, for the element at `at` of a jagged array.
+fn check_jagged_element_kind(
+    s: &[u8],
+    places: &[u16; 256],
+    count: usize,
+    name: u16,
+    at: usize,
+    list: &mut [u16],
+) -> Check
+    requires { ⌜ Table (now s) count (now places) × Reads (readTy 23 (now s) at) × (1025 ≤ length (now list)) ⌝ }
+    ensures { λ r. ⌜ Checked (now (s .entry)) name (now (list .exit)) r (λ i. checkJaggedElementKind (bundleOf (now (s .entry))) i name (typeAt 23 (now (s .entry)) at)) ⌝ }
+{
+    let shape = fields::shape_at(s, at, 23);
+    match shape {
+        Shape::Struct(_) => Check::Fine,
+        Shape::TypeRef(n) => {
+            if !is_no_struct(s, places, count, n) {
+                return Check::Fine;
+            }
+            set_chain(list, name, n, 0);
+            Check::JaggedReference
+        }
+        Shape::Enum => {
+            set_chain(list, name, 0, 0);
+            Check::JaggedInline
+        }
+        Shape::Array(_) => {
+            set_chain(list, name, 0, 0);
+            Check::JaggedInline
+        }
+        Shape::Plain => {
+            set_chain(list, name, 0, 0);
+            Check::JaggedInline
+        }
+    }
+}
+
+// Types 6 to 8, for the element at `at` of a jagged array. `nested` has the jagged test's answers.
+fn check_jagged_array_constraints(
+    s: &[u8],
+    places: &[u16; 256],
+    count: usize,
+    nested: &mut [u8; 256],
+    name: u16,
+    at: usize,
+    list: &mut [u16],
+) -> Check
+    requires { ⌜ Table (now s) count (now places) × Reads (readTy 23 (now s) at) × (1025 ≤ length (now list)) ⌝ }
+    requires { ⌜ Acyclic (now s) × Kept (now s) true (now nested) ⌝ }
+    ensures { λ r. ⌜ Checked (now (s .entry)) name (now (list .exit)) r (λ i. checkJaggedArrayConstraints (bundleOf (now (s .entry))) i name (typeAt 23 (now (s .entry)) at)) × Kept (now (s .entry)) true (now (nested .exit)) ⌝ }
+{
+    let kind = check_jagged_element_kind(s, places, count, name, at, list);
+    let Check::Fine = kind else {
+        return kind;
+    };
+    if !sizes::type_contains_jagged_array(s, places, count, nested, at, 23) {
+        return Check::Fine;
+    }
+    set_chain(list, name, 0, 0);
+    Check::NestedJagged
+}
+
+// Types 5 to 8, for the element at `at` of an array whose jagged byte is `jagged`. `kept` has the size test's answers, and `nested`
+// the jagged test's.
+pub fn check_array_element_type_size(
+    s: &[u8],
+    places: &[u16; 256],
+    count: usize,
+    kept: &mut [u8; 256],
+    nested: &mut [u8; 256],
+    name: u16,
+    jagged: u8,
+    at: usize,
+    list: &mut [u16],
+) -> Check
+    requires { ⌜ Table (now s) count (now places) × Reads (readTy 23 (now s) at) × (1025 ≤ length (now list)) ⌝ }
+    requires { ⌜ Acyclic (now s) × Kept (now s) false (now kept) × Kept (now s) true (now nested) ⌝ }
+    ensures { λ r. ⌜ Checked (now (s .entry)) name (now (list .exit)) r (λ i. checkArrayElementTypeSize (bundleOf (now (s .entry))) i name jagged (typeAt 23 (now (s .entry)) at)) × Kept (now (s .entry)) false (now (kept .exit)) × Kept (now (s .entry)) true (now (nested .exit)) ⌝ }
+{
+    if jagged == 1 {
+        return check_jagged_array_constraints(s, places, count, nested, name, at, list);
+    }
+    if !sizes::type_size_depends_on_field_refs_recursive(s, places, count, kept, at, 23) {
+        return Check::Fine;
+    }
+    set_chain(list, name, 0, 0);
+    Check::VariableElement
 }
