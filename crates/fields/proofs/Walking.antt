@@ -64,13 +64,13 @@ module _ {d : ℕ} {s : List ℕ} {count left next : ℕ} (p : Passing d s count
   field-reads = many-first more none (readMember (readTy d) 0x50) s zeroMember left next h (p .reads)
 
   module _ {f : Field} (g : FieldAt d s next f) where
-    passing-next : Passing d s count (left - 1) (f .next)
+    pub passing-next : Passing d s count (left - 1) (f .next)
     passing-next = record {
       bound = omega (arith, p .bound);
       reads = many-rest more none (readMember (readTy d) 0x50) s zeroMember left next (f .next) h (g .ends) (p .reads);
     }
 
-    passing-tree : membersAt d 0x50 left s next ≡ more (member (f .name) (g .value) (typeAt d s (f .at))) (membersAt d 0x50 (left - 1) s (f .next))
+    pub passing-tree : membersAt d 0x50 left s next ≡ more (member (f .name) (g .value) (typeAt d s (f .at))) (membersAt d 0x50 (left - 1) s (f .next))
     passing-tree =
         many-value more none (readMember (readTy d) 0x50) s zeroMember left next (f .next) h (g .ends) (p .reads)
         ∙ ap (λ m. more m (membersAt d 0x50 (left - 1) s (f .next))) (g .is zeroMember)
@@ -150,7 +150,7 @@ pub struct-refers : (at : ℕ) (s : List ℕ) {n : ℕ} (name x e last : ℕ) �
 struct-refers at s {n} name x e last q g h = rw (eq-eqb name x q, g .tree) (ap (ltb 0) h ∙ sym (any-last (sought true e) (fields 23 s n (at + 12))))
 
 -- the list from place i on
-from-place : {A : Type 0} (xs : List A) (i : ℕ) {x : A} → getElem? xs i ≡ some x → drop i xs ≡ x ∷ drop (suc i) xs
+pub from-place : {A : Type 0} (xs : List A) (i : ℕ) {x : A} → getElem? xs i ≡ some x → drop i xs ≡ x ∷ drop (suc i) xs
 from-place [] i e = let z : _≡_ {A = ℕ} 0 1 = cc in absurd (omega arith)
 from-place (y ∷ xs) zero e = ap (λ x. x ∷ xs) (let p : y ≡ _ = cc in p)
 from-place (y ∷ xs) (suc i) e = from-place xs i e

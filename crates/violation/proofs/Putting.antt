@@ -90,3 +90,11 @@ pub record-puts : (kind definition n : ℕ) (path : Path) (names chain : List �
 record-puts kind definition n path names chain {out} {o₁} {o₂} {o₃} {o₄} {out′} {at} {m₁} {m₂} {m₃} {m₄} {r} a b c d e few same =
     subst (λ xs. Puts xs out at out′ r) (record-items kind definition n names chain few)
     (puts-both a (puts-both b (puts-both c (puts-both (subst (λ p. Puts (pathBytes p) o₃ m₃ o₄ m₄) same d) e))))
+
+-- the bytes of a record
+links-size : (chain : List ℕ) → length (bytes (links chain)) ≡ 3 * length chain
+links-size [] = refl
+links-size (n ∷ chain) = omega (arith, links-size chain)
+
+pub record-size : (kind definition n : ℕ) (names chain : List ℕ) → length names ≤ 4 → length (bytes (violationItems (violation kind definition n names chain))) ≡ 16 + 3 * length chain
+record-size kind definition n names chain h = sym (ap length (record-items kind definition n names chain h)) ∙ omega (arith, links-size chain)
