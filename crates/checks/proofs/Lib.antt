@@ -1,0 +1,4 @@
+pub mod ChainChecks
+pub mod ElementChecks
+pub mod FieldChecks
+pub mod ForwardChecks

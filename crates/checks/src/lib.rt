@@ -1,0 +1,419 @@
+// The checks of single references, elements and fields, under the names of the original.
+use bundle::Layout;
+use chain::Found;
+use fields::Definition;
+use fields::Field;
+use fields::Shape;
+ghost use mathlib.Core.Path.{_≡_};
+ghost use mathlib.Core.Bool.{true, false, not};
+ghost use mathlib.Core.List.{[], _∷_};
+ghost use Prim.Native.Nat.{ℕ, _+_, _*_, _≤_, _<_};
+ghost use lib.ListN.{length, drop};
+ghost use Rattle.meaning.specs.Limits.{sizeLimit};
+ghost use Rattle.meaning.specs.Lists.{holds};
+ghost use Rattle.meaning.specs.Lookup.{findType, isStruct};
+ghost use Rattle.meaning.specs.Sizes.{namedSizeDepends};
+ghost use Rattle.meaning.specs.Tree.{member};
+ghost use Rattle.meaning.specs.ReadType.{readTy};
+ghost use Rattle.meaning.specs.Violations.{checkJaggedElementKind, checkJaggedArrayConstraints, checkArrayElementTypeSize};
+ghost use Rattle.meaning.specs.Violations.{findLayoutDependencyChain, checkEnumForwardReferenceInSameStruct, checkEnumTagLayoutCycle, checkArraySizeLayoutCycle, checkFieldLayoutDependency};
+ghost use Rattle.bundle.specs.View.{Reads};
+ghost use Rattle.bundle.specs.Definitions.{typeAt, bundleOf, Table};
+ghost use Rattle.bundle.specs.Opened.{LayoutOf};
+ghost use Rattle.chain.specs.Found.{Answers};
+ghost use Rattle.sizes.specs.Paths.{Fit};
+ghost use Rattle.sizes.specs.Scan.{pathAt, referencesFrom, Fits};
+ghost use Rattle.sizes.specs.Tests.{Acyclic, Kept};
+ghost use Rattle.checks.specs.Checks.{targetAt, typePart, PartOf, Checked, GraphOf, Known, Referred, isForward, Forwarded, ForwardIn};
+
+// What a check finds: nothing, or a violation by its type. The chain stands beside it in a lent list.
+pub enum Check {
+    Fine,
+    // Type 1: the struct and the field.
+    EnumForward(u16, u16),
+    // Types 2 and 3: where the reference is written, and the length of the chain.
+    EnumCycle(usize, usize),
+    ArrayCycle(usize, usize),
+    // Type 4: where the reference is written.
+    FieldForward(usize),
+    // Types 5 to 8.
+    VariableElement,
+    JaggedReference,
+    JaggedInline,
+    NestedJagged,
+}
+
+// Puts three names into the first places of the list.
+fn set_chain(list: &mut [u16], a: u16, b: u16, c: u16)
+    requires { ⌜ 3 ≤ length (now list) ⌝ }
+    ensures { λ _. ⌜ now (list .exit) ≡ a ∷ b ∷ c ∷ drop 3 (now (list .entry)) ⌝ }
+{
+    list[0] = a;
+    list[1] = b;
+    list[2] = c;
+}
+
+// The chain from one name to another over the edges of the bundle, into the first places of the list.
+fn find_layout_dependency_chain(s: &[u8], layout: Layout, from: u16, to: u16, list: &mut [u16]) -> Found
+    requires { ⌜ GraphOf (now s) layout ⌝ }
+    ensures { λ r. ⌜ Answers (findLayoutDependencyChain (bundleOf (now (s .entry))) from to) (now (list .entry)) (now (list .exit)) r ⌝ }
+{
+    chain::find_chain_at(s, layout.edges_at, layout.edges, from, to, list)
+}
+
+// The field part of a reference.
+pub enum Part {
+    One(u16),
+    Other,
+}
+
+// The field part of the reference at `path`, if that is one name. A part of two or three names equals no field's name.
+fn field_part(s: &[u8], path: usize) -> Part
+    requires { ⌜ Fit (now s) path ⌝ }
+    ensures { λ r. ⌜ PartOf (pathAt (now (s .entry)) path) r ⌝ }
+{
+    let n = sizes::path_length(s, path);
+    if n == 0 {
+        return Part::Other;
+    }
+    if 2 < n {
+        return Part::Other;
+    }
+    Part::One(bundle::u16_at(s, path + 2 * n - 1))
+}
+
+// Type 1, for an enum in the struct `container` that the reference at `path` leads into.
+fn check_enum_forward_reference_in_same_struct(
+    s: &[u8],
+    places: &[u16; 256],
+    count: usize,
+    name: u16,
+    container: u16,
+    path: usize,
+    list: &mut [u16],
+) -> Check
+    requires { ⌜ Table (now s) count (now places) × (container ≡ typePart (now s) path) ⌝ }
+    requires { ⌜ Fit (now s) path × (1025 ≤ length (now list)) ⌝ }
+    ensures { λ r. ⌜ Checked (now (s .entry)) name (now (list .exit)) r (λ i. checkEnumForwardReferenceInSameStruct (bundleOf (now (s .entry))) i name (targetAt (now (s .entry)) path)) ⌝ }
+{
+    let part = field_part(s, path);
+    let Part::One(field) = part else {
+        return Check::Fine;
+    };
+    if !fields::stands_before(s, places, count, name, container, field) {
+        return Check::Fine;
+    }
+    if fields::has_constant_size_variants(s, places, count, name) {
+        return Check::Fine;
+    }
+    set_chain(list, container, name, field);
+    Check::EnumForward(container, field)
+}
+
+// Whether the size of the first definition of the name depends on field references.
+fn size_depends(s: &[u8], places: &[u16; 256], count: usize, known: &[u8; 256], name: u16) -> bool
+    requires { ⌜ Table (now s) count (now places) × Known (now s) count (now known) ⌝ }
+    ensures { λ r. ⌜ r ≡ holds (namedSizeDepends (bundleOf (now (s .entry)))) (findType (bundleOf (now (s .entry))) name) ⌝ }
+{
+    let found = fields::find_definition(s, places, count, name);
+    let Definition::At(i, _) = found else {
+        return false;
+    };
+    known[i] == 2
+}
+
+// Types 1 and 2, for the reference at `path` of an enum's tag.
+pub fn check_enum_tag_layout_cycle(
+    s: &[u8],
+    places: &[u16; 256],
+    layout: Layout,
+    known: &[u8; 256],
+    name: u16,
+    path: usize,
+    list: &mut [u16],
+) -> Check
+    requires { ⌜ LayoutOf (now s) layout (now places) × Known (now s) (layout .definitions) (now known) ⌝ }
+    requires { ⌜ Fit (now s) path × (1025 ≤ length (now list)) ⌝ }
+    ensures { λ r. ⌜ Checked (now (s .entry)) name (now (list .exit)) r (λ i. checkEnumTagLayoutCycle (bundleOf (now (s .entry))) i name (pathAt (now (s .entry)) path)) ⌝ }
+{
+    let count = layout.definitions;
+    let target = sizes::parse_field_reference(s, path, layout.current);
+    if fields::is_enum_referencing_same_container_struct(s, places, count, name, target.name) {
+        return check_enum_forward_reference_in_same_struct(
+            s,
+            places,
+            count,
+            name,
+            target.name,
+            path,
+            list,
+        );
+    }
+    if !size_depends(s, places, count, known, name) {
+        return Check::Fine;
+    }
+    let found = find_layout_dependency_chain(s, layout, target.name, name, list);
+    match found {
+        Found::Missing => Check::Fine,
+        Found::Chain(n) => Check::EnumCycle(path, n),
+    }
+}
+
+// Type 3, for the reference at `path` of an array's size.
+pub fn check_array_size_layout_cycle(s: &[u8], layout: Layout, name: u16, path: usize, list: &mut [u16]) -> Check
+    requires { ⌜ GraphOf (now s) layout × Fit (now s) path × (1025 ≤ length (now list)) ⌝ }
+    ensures { λ r. ⌜ Checked (now (s .entry)) name (now (list .exit)) r (λ i. checkArraySizeLayoutCycle (bundleOf (now (s .entry))) i name (pathAt (now (s .entry)) path)) ⌝ }
+{
+    let target = sizes::parse_field_reference(s, path, layout.current);
+    let found = find_layout_dependency_chain(s, layout, target.name, name, list);
+    match found {
+        Found::Missing => Check::Fine,
+        Found::Chain(n) => Check::ArrayCycle(path, n),
+    }
+}
+
+// A field reference, and where the next record starts.
+pub enum Reference {
+    At(usize, usize),
+    End,
+}
+
+// The first field reference in the records from `at` to `end`.
+pub fn reference_at(s: &[u8], at: usize, end: usize) -> Reference
+    requires { ⌜ (end ≤ length (now s)) × (length (now s) ≤ sizeLimit) × Fits (now s) (referencesFrom (now s) at end) ⌝ }
+    ensures { λ r. ⌜ Referred (now (s .entry)) at end r ⌝ }
+{
+    let found = sizes::next_reference(s, at, end);
+    let sizes::Found::At(p) = found else {
+        return Reference::End;
+    };
+    Reference::At(p, p + 1 + 2 * sizes::path_length(s, p))
+}
+
+// Whether the reference at `path`, in the definition at `at` whose size depends on field references if `depends` is set, leads to a
+// field behind index `j` of the struct, and the definition needs it.
+fn check_forward_reference(
+    s: &[u8],
+    places: &[u16; 256],
+    layout: Layout,
+    name: u16,
+    j: usize,
+    at: usize,
+    depends: bool,
+    path: usize,
+) -> bool
+    requires { ⌜ LayoutOf (now s) layout (now places) × Fit (now s) path ⌝ }
+    requires { ⌜ Reads (readTy 24 (now s) at) × (depends ≡ namedSizeDepends (bundleOf (now s)) (typeAt 24 (now s) at)) ⌝ }
+    ensures { λ r. ⌜ r ≡ isForward (bundleOf (now (s .entry))) name j (typeAt 24 (now (s .entry)) at) (pathAt (now (s .entry)) path) ⌝ }
+{
+    let target = sizes::parse_field_reference(s, path, layout.current);
+    if target.name != name {
+        return false;
+    }
+    let part = field_part(s, path);
+    let Part::One(field) = part else {
+        return false;
+    };
+    if !fields::stands_after(s, places, layout.definitions, name, field, j) {
+        return false;
+    }
+    if sizes::is_enum_with_constant_size_variants(s, at, 24) {
+        return false;
+    }
+    if depends {
+        return true;
+    }
+    sizes::type_needs_field_ref_for_layout(s, at, 24, path)
+}
+
+// The first such reference from `from` to `end`, in the definition at `at`.
+fn find_forward_reference(
+    s: &[u8],
+    places: &[u16; 256],
+    layout: Layout,
+    name: u16,
+    j: usize,
+    at: usize,
+    depends: bool,
+    from: usize,
+    end: usize,
+) -> sizes::Found
+    requires { ⌜ LayoutOf (now s) layout (now places) × Reads (readTy 24 (now s) at) × (depends ≡ namedSizeDepends (bundleOf (now s)) (typeAt 24 (now s) at)) ⌝ }
+    requires { ⌜ (end ≤ length (now s)) × Fits (now s) (referencesFrom (now s) from end) ⌝ }
+    ensures { λ r. ⌜ Forwarded (now (s .entry)) name j (typeAt 24 (now (s .entry)) at) (referencesFrom (now (s .entry)) from end) r ⌝ }
+{
+    let mut next = from;
+    while next < end {
+        let reference = reference_at(s, next, end);
+        let Reference::At(p, after) = reference else {
+            return sizes::Found::Nothing;
+        };
+        if check_forward_reference(s, places, layout, name, j, at, depends, p) {
+            return sizes::Found::At(p);
+        }
+        next = after;
+    }
+    sizes::Found::Nothing
+}
+
+// The first such reference in the whole definition at `at`.
+fn find_forward(
+    s: &[u8],
+    places: &[u16; 256],
+    layout: Layout,
+    name: u16,
+    j: usize,
+    at: usize,
+    depends: bool,
+) -> sizes::Found
+    requires { ⌜ LayoutOf (now s) layout (now places) × Reads (readTy 24 (now s) at) × (depends ≡ namedSizeDepends (bundleOf (now s)) (typeAt 24 (now s) at)) ⌝ }
+    ensures { λ r. ⌜ ForwardIn (now (s .entry)) name j (typeAt 24 (now (s .entry)) at) r ⌝ }
+{
+    let step = bundle::type_at(s, at, 24);
+    match step {
+        bundle::Step::Next(end) => find_forward_reference(s, places, layout, name, j, at, depends, at, end),
+        bundle::Step::Refused(_) => sizes::Found::Nothing,
+    }
+}
+
+// Type 4, for the field at index `j` of the struct: the first reference to a later field in the definition to which the field's
+// type, a TypeRef, leads.
+pub fn check_field_layout_dependency(
+    s: &[u8],
+    places: &[u16; 256],
+    layout: Layout,
+    known: &[u8; 256],
+    name: u16,
+    j: usize,
+    field: Field,
+    list: &mut [u16],
+) -> Check
+    requires { ⌜ LayoutOf (now s) layout (now places) × Known (now s) (layout .definitions) (now known) ⌝ }
+    requires { ⌜ Reads (readTy 23 (now s) (field .at)) × (1025 ≤ length (now list)) ⌝ }
+    ensures { λ r. ⌜ ((v : ℕ) → Checked (now (s .entry)) name (now (list .exit)) r (λ i. checkFieldLayoutDependency (bundleOf (now (s .entry))) i name (j, member (field .name) v (typeAt 23 (now (s .entry)) (field .at))))) ⌝ }
+{
+    let count = layout.definitions;
+    let shape = fields::shape_at(s, field.at, 23);
+    let Shape::TypeRef(n) = shape else {
+        return Check::Fine;
+    };
+    let found = fields::find_definition(s, places, count, n);
+    let Definition::At(i, at) = found else {
+        return Check::Fine;
+    };
+    let forward = find_forward(s, places, layout, name, j, at, known[i] == 2);
+    let sizes::Found::At(p) = forward else {
+        return Check::Fine;
+    };
+    let part = field_part(s, p);
+    let Part::One(later) = part else {
+        return Check::Fine;
+    };
+    set_chain(list, name, field.name, later);
+    Check::FieldForward(p)
+}
+
+// Whether the first definition of the name is there and is no struct.
+fn is_no_struct(s: &[u8], places: &[u16; 256], count: usize, name: u16) -> bool
+    requires { ⌜ Table (now s) count (now places) ⌝ }
+    ensures { λ r. ⌜ r ≡ holds (λ t. not (isStruct t)) (findType (bundleOf (now (s .entry))) name) ⌝ }
+{
+    let found = fields::find_definition(s, places, count, name);
+    let Definition::At(_, at) = found else {
+        return false;
+    };
+    let shape = fields::shape_at(s, at, 24);
+    let Shape::Struct(_) = shape else {
+        return true;
+    };
+    false
+}
+
+// Types 6 and 7, for the element at `at` of a jagged array.
+fn check_jagged_element_kind(
+    s: &[u8],
+    places: &[u16; 256],
+    count: usize,
+    name: u16,
+    at: usize,
+    list: &mut [u16],
+) -> Check
+    requires { ⌜ Table (now s) count (now places) × Reads (readTy 23 (now s) at) × (1025 ≤ length (now list)) ⌝ }
+    ensures { λ r. ⌜ Checked (now (s .entry)) name (now (list .exit)) r (λ i. checkJaggedElementKind (bundleOf (now (s .entry))) i name (typeAt 23 (now (s .entry)) at)) ⌝ }
+{
+    let shape = fields::shape_at(s, at, 23);
+    match shape {
+        Shape::Struct(_) => Check::Fine,
+        Shape::TypeRef(n) => {
+            if !is_no_struct(s, places, count, n) {
+                return Check::Fine;
+            }
+            set_chain(list, name, n, 0);
+            Check::JaggedReference
+        }
+        Shape::Enum => {
+            set_chain(list, name, 0, 0);
+            Check::JaggedInline
+        }
+        Shape::Array(_) => {
+            set_chain(list, name, 0, 0);
+            Check::JaggedInline
+        }
+        Shape::Plain => {
+            set_chain(list, name, 0, 0);
+            Check::JaggedInline
+        }
+    }
+}
+
+// Types 6 to 8, for the element at `at` of a jagged array. `nested` has the jagged test's answers.
+fn check_jagged_array_constraints(
+    s: &[u8],
+    places: &[u16; 256],
+    count: usize,
+    nested: &mut [u8; 256],
+    name: u16,
+    at: usize,
+    list: &mut [u16],
+) -> Check
+    requires { ⌜ Table (now s) count (now places) × Reads (readTy 23 (now s) at) × (1025 ≤ length (now list)) ⌝ }
+    requires { ⌜ Acyclic (now s) × Kept (now s) true (now nested) ⌝ }
+    ensures { λ r. ⌜ Checked (now (s .entry)) name (now (list .exit)) r (λ i. checkJaggedArrayConstraints (bundleOf (now (s .entry))) i name (typeAt 23 (now (s .entry)) at)) × Kept (now (s .entry)) true (now (nested .exit)) ⌝ }
+{
+    let kind = check_jagged_element_kind(s, places, count, name, at, list);
+    let Check::Fine = kind else {
+        return kind;
+    };
+    if !sizes::type_contains_jagged_array(s, places, count, nested, at, 23) {
+        return Check::Fine;
+    }
+    set_chain(list, name, 0, 0);
+    Check::NestedJagged
+}
+
+// Types 5 to 8, for the element at `at` of an array whose jagged byte is `jagged`. `kept` has the size test's answers, and `nested`
+// the jagged test's.
+pub fn check_array_element_type_size(
+    s: &[u8],
+    places: &[u16; 256],
+    count: usize,
+    kept: &mut [u8; 256],
+    nested: &mut [u8; 256],
+    name: u16,
+    jagged: u8,
+    at: usize,
+    list: &mut [u16],
+) -> Check
+    requires { ⌜ Table (now s) count (now places) × Reads (readTy 23 (now s) at) × (1025 ≤ length (now list)) ⌝ }
+    requires { ⌜ Acyclic (now s) × Kept (now s) false (now kept) × Kept (now s) true (now nested) ⌝ }
+    ensures { λ r. ⌜ Checked (now (s .entry)) name (now (list .exit)) r (λ i. checkArrayElementTypeSize (bundleOf (now (s .entry))) i name jagged (typeAt 23 (now (s .entry)) at)) × Kept (now (s .entry)) false (now (kept .exit)) × Kept (now (s .entry)) true (now (nested .exit)) ⌝ }
+{
+    if jagged == 1 {
+        return check_jagged_array_constraints(s, places, count, nested, name, at, list);
+    }
+    if !sizes::type_size_depends_on_field_refs_recursive(s, places, count, kept, at, 23) {
+        return Check::Fine;
+    }
+    set_chain(list, name, 0, 0);
+    Check::VariableElement
+}
