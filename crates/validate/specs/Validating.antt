@@ -11,13 +11,16 @@ use Rattle.meaning.specs.Limits.{edgeLimit}
 use Rattle.meaning.specs.Lists.{flatMap, onlyIf}
 use Rattle.meaning.specs.Report.{violationItems}
 use Rattle.meaning.specs.Tree.{Bundle}
-use Rattle.meaning.specs.Violations.{Violation, violation, checkEnumTagLayoutCycle, checkArraySizeLayoutCycle}
+use Rattle.meaning.specs.Violations.{Violation, violation, checkEnumTagLayoutCycle, checkArraySizeLayoutCycle, validateType}
 use Rattle.violation.specs.declared.Path.{Path}
 use Rattle.violation.specs.declared.Record.{Record}
 use Rattle.violation.specs.Records.{Puts, farthest, padded}
 use Rattle.checks.specs.declared.Check.{Check}
 use Rattle.checks.specs.Checks.{violationOf, Fitting}
+use Rattle.meaning.specs.Reader.{little}
+use Rattle.bundle.specs.Definitions.{bundleOf, typeAt}
 use Rattle.validate.specs.declared.Position.{Position}
+use Rattle.validate.specs.declared.Subject.{Subject}
 
 -- r is the record of what a check found, and has the type 0 where it found nothing
 pub record Recorded (s : List ℕ) (c : Check) (r : Record) : Type 0 where
@@ -54,3 +57,11 @@ pub record Room (p : Position) (vs : List Violation) : Type 0 where
 abbrev pub checkReference : Bool → Bundle → ℕ → ℕ → List ℕ → Option Violation
 checkReference true = checkEnumTagLayoutCycle
 checkReference false = checkArraySizeLayoutCycle
+
+-- the violations of a definition
+abbrev pub violationsOf : List ℕ → Subject → List Violation
+violationsOf s d = validateType (bundleOf s) (d .number) (d .name) (typeAt 24 s (d .at))
+
+-- those of definition i
+abbrev pub violationsAt : List ℕ → List ℕ → ℕ → List Violation
+violationsAt s places i = validateType (bundleOf s) i (little s (getD places i 0 - 2) 2) (typeAt 24 s (getD places i 0))

@@ -12,21 +12,17 @@ ghost use mathlib.Core.List.{[]};
 ghost use Prim.Native.Nat.{ℕ, _+_, _*_, _≤_, _<_};
 ghost use lib.ListN.{length, getD};
 ghost use Rattle.meaning.specs.Limits.{definitionLimit};
-ghost use Rattle.meaning.specs.Lists.{filterMap, enumerate, push};
-ghost use Rattle.meaning.specs.Lookup.{listOf};
-ghost use Rattle.meaning.specs.ReadExpr.{readExpr};
-ghost use Rattle.meaning.specs.ReadType.{readMembers, readTy};
-ghost use Rattle.meaning.specs.Violations.{checkFieldLayoutDependency, violations};
-ghost use Rattle.bundle.specs.View.{Reads};
-ghost use Rattle.bundle.specs.Definitions.{membersAt, bundleOf};
+ghost use Rattle.meaning.specs.Lists.{filterMap, push};
+ghost use Rattle.meaning.specs.Violations.{violations};
+ghost use Rattle.bundle.specs.Definitions.{bundleOf};
 ghost use Rattle.bundle.specs.Opened.{LayoutOf};
 ghost use Rattle.sizes.specs.Paths.{Fit};
 ghost use Rattle.sizes.specs.Scan.{pathAt, pathsFrom, referencesFrom, Fits};
 ghost use Rattle.sizes.specs.Tests.{Acyclic, Kept};
-ghost use Rattle.fields.specs.Shapes.{EnumAt, ArrayAt};
+ghost use Rattle.fields.specs.Shapes.{StructAt, EnumAt, ArrayAt};
 ghost use Rattle.violation.specs.Records.{padded};
 ghost use Rattle.checks.specs.Checks.{violationOf, Fitting, Checked, Known};
-ghost use Rattle.validate.specs.Validating.{Recorded, Wrote, Room, recordWith, pathOfTwo, checkReference};
+ghost use Rattle.validate.specs.Validating.{Recorded, Wrote, Room, recordWith, pathOfTwo, checkReference, violationsOf, violationsAt};
 
 // How far a report is written: the place behind it, and the count of its violations.
 pub struct Position {
@@ -176,6 +172,205 @@ fn validate_references(
         let check = check_reference(s, places, layout, known, name, tag, path, list);
         reached = put_check(s, out, reached, i, name, check, list);
         next = after;
+    }
+    reached
+}
+
+// Writes the violations of an enum: for each reference of its tag.
+fn validate_enum_tag_constraints(
+    s: &[u8],
+    places: &[u16; 256],
+    layout: Layout,
+    known: &[u8; 256],
+    subject: Subject,
+    list: &mut [u16],
+    out: &mut [u8],
+    position: Position,
+) -> Position
+    requires { ⌜ LayoutOf (now s) layout (now places) × Known (now s) (layout .definitions) (now known) × (subject .number < definitionLimit) ⌝ }
+    requires { ⌜ (1025 ≤ length (now list)) × EnumAt 24 (now s) (subject .at) × Room position (violationsOf (now s) subject) ⌝ }
+    ensures { λ r. ⌜ Wrote (violationsOf (now (s .entry)) subject) (now (out .entry)) position (now (out .exit)) r ⌝ }
+{
+    let start = subject.at + 12;
+    let step = bundle::expr_at(s, start, 23);
+    match step {
+        Step::Next(end) => validate_references(
+            s,
+            places,
+            layout,
+            known,
+            subject,
+            true,
+            start,
+            end,
+            list,
+            out,
+            position,
+        ),
+        Step::Refused(_) => position,
+    }
+}
+
+// Writes the violations of an array: for its element, then for each reference of its size.
+fn validate_array_size_constraints(
+    s: &[u8],
+    places: &[u16; 256],
+    layout: Layout,
+    known: &[u8; 256],
+    kept: &mut [u8; 256],
+    nested: &mut [u8; 256],
+    subject: Subject,
+    jagged: u8,
+    list: &mut [u16],
+    out: &mut [u8],
+    position: Position,
+) -> Position
+    requires { ⌜ LayoutOf (now s) layout (now places) × Known (now s) (layout .definitions) (now known) × (subject .number < definitionLimit) ⌝ }
+    requires { ⌜ (1025 ≤ length (now list)) × ArrayAt 24 (now s) (subject .at) jagged × Room position (violationsOf (now s) subject) ⌝ }
+    requires { ⌜ Acyclic (now s) × Kept (now s) false (now kept) × Kept (now s) true (now nested) ⌝ }
+    ensures { λ r. ⌜ Wrote (violationsOf (now (s .entry)) subject) (now (out .entry)) position (now (out .exit)) r × Kept (now (s .entry)) false (now (kept .exit)) × Kept (now (s .entry)) true (now (nested .exit)) ⌝ }
+{
+    let start = subject.at + 11;
+    let i = subject.number;
+    let name = subject.name;
+    let step = bundle::expr_at(s, start, 23);
+    match step {
+        Step::Next(element) => {
+            let check = checks::check_array_element_type_size(
+                s,
+                places,
+                layout.definitions,
+                kept,
+                nested,
+                name,
+                jagged,
+                element,
+                list,
+            );
+            let next = put_check(s, out, position, i, name, check, list);
+            validate_references(
+                s,
+                places,
+                layout,
+                known,
+                subject,
+                false,
+                start,
+                element,
+                list,
+                out,
+                next,
+            )
+        }
+        Step::Refused(_) => position,
+    }
+}
+
+// Writes the violations of a struct: at most one for each of its `count` fields.
+fn validate_struct_field_constraints(
+    s: &[u8],
+    places: &[u16; 256],
+    layout: Layout,
+    known: &[u8; 256],
+    subject: Subject,
+    count: usize,
+    list: &mut [u16],
+    out: &mut [u8],
+    position: Position,
+) -> Position
+    requires { ⌜ LayoutOf (now s) layout (now places) × Known (now s) (layout .definitions) (now known) × (subject .number < definitionLimit) ⌝ }
+    requires { ⌜ (1025 ≤ length (now list)) × StructAt 24 (now s) (subject .at) count × Room position (violationsOf (now s) subject) ⌝ }
+    ensures { λ r. ⌜ Wrote (violationsOf (now (s .entry)) subject) (now (out .entry)) position (now (out .exit)) r ⌝ }
+{
+    let i = subject.number;
+    let name = subject.name;
+    let mut next = subject.at + 12;
+    let mut left = count;
+    let mut reached = position;
+    while 0 < left {
+        let field = fields::field_at(s, next, 23);
+        let check = checks::check_field_layout_dependency(
+            s,
+            places,
+            layout,
+            known,
+            name,
+            count - left,
+            field,
+            list,
+        );
+        reached = put_check(s, out, reached, i, name, check, list);
+        next = field.next;
+        left -= 1;
+    }
+    reached
+}
+
+// Writes the violations of definition `i`: an enum, array or struct goes to its validator, other kinds to none.
+fn validate_type(
+    s: &[u8],
+    places: &[u16; 256],
+    layout: Layout,
+    known: &[u8; 256],
+    kept: &mut [u8; 256],
+    nested: &mut [u8; 256],
+    i: usize,
+    list: &mut [u16],
+    out: &mut [u8],
+    position: Position,
+) -> Position
+    requires { ⌜ LayoutOf (now s) layout (now places) × Known (now s) (layout .definitions) (now known) × (i < layout .definitions) ⌝ }
+    requires { ⌜ (1025 ≤ length (now list)) × Room position (violationsAt (now s) (now places) i) ⌝ }
+    requires { ⌜ Acyclic (now s) × Kept (now s) false (now kept) × Kept (now s) true (now nested) ⌝ }
+    ensures { λ r. ⌜ Wrote (violationsAt (now (s .entry)) (now (places .entry)) i) (now (out .entry)) position (now (out .exit)) r × Kept (now (s .entry)) false (now (kept .exit)) × Kept (now (s .entry)) true (now (nested .exit)) ⌝ }
+{
+    let place = fields::place_of(s, places, layout.definitions, i);
+    let subject = Subject { number: i, name: place.name, at: place.at };
+    let shape = fields::shape_at(s, place.at, 24);
+    match shape {
+        Shape::Struct(n) => validate_struct_field_constraints(s, places, layout, known, subject, n, list, out, position),
+        Shape::Enum => validate_enum_tag_constraints(s, places, layout, known, subject, list, out, position),
+        Shape::Array(jagged) => validate_array_size_constraints(
+            s,
+            places,
+            layout,
+            known,
+            kept,
+            nested,
+            subject,
+            jagged,
+            list,
+            out,
+            position,
+        ),
+        Shape::TypeRef(_) => position,
+        Shape::Plain => position,
+    }
+}
+
+// Writes the violations of all definitions, in order.
+pub fn validate_layout_constraints(
+    s: &[u8],
+    places: &[u16; 256],
+    layout: Layout,
+    known: &[u8; 256],
+    kept: &mut [u8; 256],
+    nested: &mut [u8; 256],
+    list: &mut [u16],
+    out: &mut [u8],
+    position: Position,
+) -> Position
+    requires { ⌜ LayoutOf (now s) layout (now places) × Known (now s) (layout .definitions) (now known) ⌝ }
+    requires { ⌜ (1025 ≤ length (now list)) × Room position (violations (bundleOf (now s))) ⌝ }
+    requires { ⌜ Acyclic (now s) × Kept (now s) false (now kept) × Kept (now s) true (now nested) ⌝ }
+    ensures { λ r. ⌜ Wrote (violations (bundleOf (now (s .entry)))) (now (out .entry)) position (now (out .exit)) r × Kept (now (s .entry)) false (now (kept .exit)) × Kept (now (s .entry)) true (now (nested .exit)) ⌝ }
+{
+    let count = layout.definitions;
+    let mut i = 0;
+    let mut reached = position;
+    while i < count {
+        reached = validate_type(s, places, layout, known, kept, nested, i, list, out, reached);
+        i += 1;
     }
     reached
 }
