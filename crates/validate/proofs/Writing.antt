@@ -114,7 +114,7 @@ module _ (s : List ℕ) {c : Check} {r : Record} where
 
 -- nothing, and one list of violations behind another
 pub wrote-none : (out : List ℕ) (p : Position) → Wrote [] out p out p
-wrote-none out p = record { puts = record { written = refl; behind = omega arith }; counts = omega arith }
+wrote-none out p = record { puts = record { written = refl; behind = omega arith }; counts = omega arith; short = omega arith }
 
 record-append : (vs ws : List Violation) → recordBytes (vs ++ ws) ≡ recordBytes vs ++ recordBytes ws
 record-append vs ws = ap bytes (flatMap-append violationItems vs ws) ∙ bytes-append (flatMap violationItems vs) (flatMap violationItems ws)
@@ -123,6 +123,7 @@ wrote-both : {vs ws : List Violation} {out out′ out″ : List ℕ} {p q r : Po
 wrote-both {vs} {ws} {out} {out′} {out″} {p} {q} {r} a b = record {
   puts = subst (λ xs. Puts xs out (p .at) out″ (r .at)) (sym (record-append vs ws)) (puts-both (a .puts) (b .puts));
   counts = omega (arith, a .counts, b .counts, length-append vs ws);
+  short = omega (arith, a .short, b .short, length-append vs ws, ap length (record-append vs ws), length-append (recordBytes vs) (recordBytes ws));
 }
 
 -- of the violations `whole`, those `left` are still to be written
@@ -140,14 +141,14 @@ module _ {whole : List Violation} {out₀ : List ℕ} {p₀ : Position} {left : 
 
   pub going-room : (vs rest : List Violation) → left ≡ vs ++ rest → Room p vs
   going-room vs rest e = record {
-    far = omega (arith, g .room .far, ap (λ l. length (recordBytes l)) e ∙ ap length (record-append vs rest) ∙ length-append (recordBytes vs) (recordBytes rest));
+    far = g .room .far;
     few = omega (arith, g .room .few, ap length e ∙ length-append vs rest);
   }
 
   pub going-next : (vs rest : List Violation) {out′ : List ℕ} {q : Position} → left ≡ vs ++ rest → Wrote vs out p out′ q → Going whole out₀ p₀ rest out′ q
   going-next vs rest {out′} {q} e w = record {
     room = record {
-      far = omega (arith, g .room .far, w .puts .behind, ap (λ l. length (recordBytes l)) e ∙ ap length (record-append vs rest) ∙ length-append (recordBytes vs) (recordBytes rest));
+      far = omega (arith, g .room .far, w .puts .behind, w .counts, w .short);
       few = omega (arith, g .room .few, w .counts, ap length e ∙ length-append vs rest);
     };
     size = puts-size (w .puts) ∙ g .size;
@@ -180,13 +181,14 @@ module _ {s : List ℕ} {c : Check} {r : Record} (g : Recorded s c r) (i n : ℕ
     size = record-size (r .kind) i n (g .names) (take (r .length) list) (g .few) ∙ ap (λ k. 16 + 3 * k) (length-take-le (r .length) list (g .room (length list) f .1))
 
     pub put-room : {p : Position} → Room p (push (violationOf s i n list c) []) → p .at + 16 + 3 * r .length ≤ farthest
-    put-room w = omega (arith, w .far, ap length one, size)
+    put-room w = omega (arith, w .far, w .few, ap (λ o. length (push o [])) is-found, g .room (length list) f .0)
 
     pub put-some : {out : List ℕ} {p : Position} {out′ : List ℕ} {m : ℕ} → Puts (bytes (violationItems found)) out (p .at) out′ m
         → Wrote (push (violationOf s i n list c) []) out p out′ (record { at = m; count = p .count + 1 })
     put-some {out} {p} {out′} {m} w = record {
       puts = subst (λ xs. Puts xs out (p .at) out′ m) (sym one) w;
       counts = ap (λ o. p .count + length (push o [])) (sym is-found);
+      short = omega (arith, ap (λ o. length (push o [])) is-found, ap length one, size, g .room (length list) f .0);
     }
 
 -- the references from `next` to `end` are still to be checked

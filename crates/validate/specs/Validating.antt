@@ -14,7 +14,7 @@ use Rattle.meaning.specs.Tree.{Bundle}
 use Rattle.meaning.specs.Violations.{Violation, violation, checkEnumTagLayoutCycle, checkArraySizeLayoutCycle, validateType}
 use Rattle.violation.specs.declared.Path.{Path}
 use Rattle.violation.specs.declared.Record.{Record}
-use Rattle.violation.specs.Records.{Puts, farthest, padded}
+use Rattle.violation.specs.Records.{Puts, padded}
 use Rattle.checks.specs.declared.Check.{Check}
 use Rattle.checks.specs.Checks.{violationOf, Fitting}
 use Rattle.meaning.specs.Reader.{little}
@@ -43,14 +43,19 @@ pathOfTwo count first second = record { count = count; first = first; second = s
 abbrev pub recordBytes : List Violation → List ℕ
 recordBytes vs = bytes (flatMap violationItems vs)
 
+-- the most bytes of a record, with a chain of 1,025 names
+abbrev pub recordLimit : ℕ
+recordLimit = 3091
+
 -- the violations vs are written from position p on, and q is the position behind them
 pub record Wrote (vs : List Violation) (out : List ℕ) (p : Position) (out′ : List ℕ) (q : Position) : Type 0 where
   pub puts : Puts (recordBytes vs) out (p .at) out′ (q .at)
   pub counts : q .count ≡ p .count + length vs
+  pub short : length (recordBytes vs) ≤ recordLimit * length vs
 
--- their records and their number can be counted from position p on
+-- p is no farther than its count allows, and vs can be counted from there on
 pub record Room (p : Position) (vs : List Violation) : Type 0 where
-  pub far : p .at + length (recordBytes vs) ≤ farthest
+  pub far : p .at ≤ 3 + recordLimit * p .count
   pub few : p .count + length vs ≤ 65535
 
 -- the check of one reference: of an enum's tag, or of an array's size
