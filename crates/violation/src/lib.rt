@@ -25,7 +25,7 @@ pub struct Record {
 }
 
 // Writes a byte where there is a place for it. Returns the place behind it, as all functions here do.
-fn put_byte(out: &mut [u8], at: usize, value: u8) -> usize
+pub fn put_byte(out: &mut [u8], at: usize, value: u8) -> usize
     requires { ⌜ at < farthest ⌝ }
     ensures { λ r. ⌜ Puts (value ∷ []) (now (out .entry)) at (now (out .exit)) r ⌝ }
 {

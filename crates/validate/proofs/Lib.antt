@@ -1,0 +1,2 @@
+pub mod Validators
+pub mod Writing

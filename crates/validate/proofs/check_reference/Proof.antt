@@ -1,0 +1,35 @@
+-- `validate::check_reference` meets its contract.
+use borrow.Author.Needs.{needs}
+use Rattle.validate.proofs.check_reference.Statement.{statement}
+use Rattle.validate.proofs.check_reference.Tie as tie
+use Rattle.checks.proofs.ChainChecks.{graph-of}
+use Rattle.validate.proofs.Writing.{of-tag, of-size}
+
+check-enum-tag-layout-cycle-requires : tie.Need-check-enum-tag-layout-cycle-requires
+check-enum-tag-layout-cycle-requires c κs = search needs
+
+same-length : tie.Need-same-length
+same-length c = search needs
+
+returns : tie.Need-returns
+returns c = of-tag _ _ _ _ (c .before .before .before .before .if1 .taken) (c .before .before .check-enum-tag-layout-cycle .ensures)
+
+check-array-size-layout-cycle-requires : tie.Need-check-array-size-layout-cycle-requires
+check-array-size-layout-cycle-requires c κs = (graph-of (c .before .before .before .before .pre .0 .0), c .before .before .before .before .pre .1 .0, c .before .before .before .before .pre .1 .1)
+
+same-length-2 : tie.Need-same-length-2
+same-length-2 c = search needs
+
+returns-2 : tie.Need-returns-2
+returns-2 c = of-size _ _ _ _ (c .before .before .before .before .if1 .left) (c .before .before .check-array-size-layout-cycle .ensures)
+
+pub check-reference-spec : {M : Type 1} → statement M
+check-reference-spec =
+    tie.close
+    (tie.spec
+    check-enum-tag-layout-cycle-requires
+    same-length
+    returns
+    check-array-size-layout-cycle-requires
+    same-length-2
+    returns-2)

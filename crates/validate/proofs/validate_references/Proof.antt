@@ -1,0 +1,83 @@
+-- `validate::validate_references` meets its contract: the invariant is that of `Writing`.
+use Rattle.validate.proofs.validate_references.Statement.{statement}
+use Rattle.validate.proofs.validate_references.Tie as tie
+use borrow.Author.Needs.{needs}
+use Prim.Native.Nat.{_-_}
+use native.Mathlib.Omega.{arith}
+use mathlib.Core.Path.{_∙_}
+use Rattle.bundle.specs.Definitions.{bundleOf}
+use Rattle.sizes.proofs.ScanLaws.{nothing-left}
+use Rattle.checks.proofs.ForwardChecks.{reference-is, reference-no}
+use Rattle.violation.proofs.Putting.{puts-size}
+use Rattle.validate.specs.Validating.{checkReference}
+use Rattle.validate.proofs.Writing.{Referencing, referencing-start, referencing-room, referencing-next, referencing-end}
+
+abbrev Inv-loop : tie.InvT-loop
+Inv-loop s places layout known tag at end list₀ out₀ i name next₀ reached₀ list out next reached =
+    Referencing s (checkReference tag (bundleOf s) i name) at end list₀ out₀ reached₀ list out next reached
+
+abbrev μ-loop : tie.MeasureT-loop
+μ-loop s places layout known tag at end list₀ out₀ i name next₀ reached₀ list out next reached = end - next
+
+loop-holds : tie.Need-loop-holds Inv-loop μ-loop
+loop-holds c = referencing-start _ _ _ _ _ _ _ (c .before .before .before .pre .1 .0 .2) (c .before .before .before .pre .1 .1)
+
+reference-at-requires : tie.Need-reference-at-requires Inv-loop μ-loop
+reference-at-requires c κs = (c .before .before .before .before .before .pre .1 .0 .1, c .before .before .before .before .before .pre .0 .0 .small, (c .before .loop .inv) .fits)
+
+enum-known-reference : tie.Need-enum-known-reference Inv-loop μ-loop
+enum-known-reference c = search needs
+
+enum-told : tie.Need-enum-told Inv-loop μ-loop
+enum-told c = search needs
+
+same-length : tie.Need-same-length Inv-loop μ-loop
+same-length c = (c .before .before .before .before .loop .inv) .list-size
+
+same-length-2 : tie.Need-same-length-2 Inv-loop μ-loop
+same-length-2 c = (c .before .before .before .before .loop .inv) .going .size
+
+returns : tie.Need-returns Inv-loop μ-loop
+returns c = referencing-end (c .before .before .before .before .loop .inv) (reference-no _ _ _ (c .enum-told .given .1) (c .before .before .reference-at .ensures))
+
+check-reference-requires : tie.Need-check-reference-requires Inv-loop μ-loop
+check-reference-requires c κs = ((c .before .before .before .before .before .before .before .before .before .before .pre .0 .0, c .before .before .before .before .before .before .before .before .before .before .pre .0 .1), ((reference-is _ _ _ (c .before .before .reference .given .1) (c .before .before .before .before .reference-at .ensures)) .fit, omega (arith, c .before .before .before .before .before .before .before .before .before .before .pre .1 .0 .0, (c .before .before .before .before .before .before .loop .inv) .list-size)))
+
+put-check-requires : tie.Need-put-check-requires Inv-loop μ-loop
+put-check-requires c κs = ((c .before .before .before .before .before .before .before .before .before .before .before .before .before .before .before .pre .0 .2, c .before .before .before .before .check-reference .ensures .fits), referencing-room (c .before .before .before .before .before .before .before .before .before .before .before .loop .inv) (reference-is _ _ _ (c .before .before .before .before .before .before .before .reference .given .1) (c .before .before .before .before .before .before .before .before .before .reference-at .ensures)) _ (c .before .before .before .before .check-reference .ensures .means _))
+
+loop-less : tie.Need-loop-less Inv-loop μ-loop
+loop-less c = omega (arith, (reference-is _ _ _ (c .before .before .before .before .before .before .before .before .before .before .reference .given .1) (c .before .before .before .before .before .before .before .before .before .before .before .before .reference-at .ensures)) .forward)
+
+loop-again : tie.Need-loop-again Inv-loop μ-loop
+loop-again c = referencing-next (c .before .before .before .before .before .before .before .before .before .before .before .before .before .before .loop .inv) (reference-is _ _ _ (c .before .before .before .before .before .before .before .before .before .before .reference .given .1) (c .before .before .before .before .before .before .before .before .before .before .before .before .reference-at .ensures)) _ (c .before .before .before .before .before .before .before .check-reference .ensures .means _) (c .before .before .before .before .before .before .before .check-reference .kept .1 .1 .1 .1 .1 .1 .1 .0) (c .before .before .put-check .ensures)
+
+same-length-3 : tie.Need-same-length-3 Inv-loop μ-loop
+same-length-3 c = (c .before .loop .inv) .list-size
+
+same-length-4 : tie.Need-same-length-4 Inv-loop μ-loop
+same-length-4 c = (c .before .loop .inv) .going .size
+
+returns-2 : tie.Need-returns-2 Inv-loop μ-loop
+returns-2 c = referencing-end (c .before .loop .inv) (nothing-left _ _ _ (omega arith))
+
+pub validate-references-spec : {M : Type 1} → statement M
+validate-references-spec =
+    tie.close
+    (tie.spec
+    Inv-loop
+    μ-loop
+    loop-holds
+    reference-at-requires
+    enum-known-reference
+    enum-told
+    same-length
+    same-length-2
+    returns
+    check-reference-requires
+    put-check-requires
+    loop-less
+    loop-again
+    same-length-3
+    same-length-4
+    returns-2)

@@ -1,0 +1,73 @@
+-- `validate::validate_struct_field_constraints` meets its contract: the invariant is that of `Validators`.
+use Rattle.validate.proofs.validate_struct_field_constraints.Statement.{statement}
+use Rattle.validate.proofs.validate_struct_field_constraints.Tie as tie
+use borrow.Author.Needs.{needs}
+use native.Mathlib.Omega.{arith}
+use mathlib.Core.Path.{sym, subst}
+use Rattle.fields.proofs.Walking.{field-reads}
+use Rattle.validate.specs.Validating.{Wrote}
+use Rattle.validate.proofs.Validators.{Fielding, fieldsFound, struct-violations, fielding-start, fielding-room, fielding-next, fielding-end}
+
+abbrev Inv-loop : tie.InvT-loop
+Inv-loop s places layout known count list₀ out₀ i name next₀ left₀ reached₀ list out next left reached =
+    Fielding s i name count (fieldsFound s i name count next₀) list₀ out₀ reached₀ list out next left reached
+
+abbrev μ-loop : tie.MeasureT-loop
+μ-loop s places layout known count list₀ out₀ i name next₀ left₀ reached₀ list out next left reached =
+    left
+
+add-next : tie.Need-add-next Inv-loop μ-loop
+add-next c = omega (arith, c .before .before .before .before .pre .1 .1 .inside)
+
+loop-holds : tie.Need-loop-holds Inv-loop μ-loop
+loop-holds c = fielding-start _ (c .before .before .before .before .args .subject) (c .before .before .before .before .pre .1 .1) _ _ _ (c .before .before .before .before .pre .1 .2)
+
+field-at-requires : tie.Need-field-at-requires Inv-loop μ-loop
+field-at-requires c κs = field-reads ((c .before .loop .inv) .pass) (c .loop-test .taken)
+
+sub-check-field-layout-dependency : tie.Need-sub-check-field-layout-dependency Inv-loop μ-loop
+sub-check-field-layout-dependency c = omega (arith, (c .before .before .loop .inv) .pass .bound)
+
+check-field-layout-dependency-requires :
+    tie.Need-check-field-layout-dependency-requires Inv-loop μ-loop
+check-field-layout-dependency-requires c κs = ((c .before .before .before .before .before .before .before .before .pre .0 .0, c .before .before .before .before .before .before .before .before .pre .0 .1), (c .before .field-at .ensures .reads, omega (arith, c .before .before .before .before .before .before .before .before .pre .1 .0, (c .before .before .before .loop .inv) .list-size)))
+
+put-check-requires : tie.Need-put-check-requires Inv-loop μ-loop
+put-check-requires c κs = ((c .before .before .before .before .before .before .before .before .before .before .before .before .before .pre .0 .2, c .before .before .before .before .check-field-layout-dependency .ensures 0 .fits), fielding-room (c .before .before .before .before .before .before .before .before .loop .inv) (c .before .before .before .before .before .before .before .loop-test .taken) (c .before .before .before .before .before .before .field-at .ensures) _ (c .before .before .before .before .check-field-layout-dependency .ensures (c .before .before .before .before .before .before .field-at .ensures .value) .means _))
+
+sub-left : tie.Need-sub-left Inv-loop μ-loop
+sub-left c = search needs
+
+loop-less : tie.Need-loop-less Inv-loop μ-loop
+loop-less c = search needs
+
+loop-again : tie.Need-loop-again Inv-loop μ-loop
+loop-again c = fielding-next (c .before .before .before .before .before .before .before .before .before .before .before .loop .inv) (c .before .before .before .before .before .before .before .before .before .before .loop-test .taken) (c .before .before .before .before .before .before .before .before .before .field-at .ensures) _ (c .before .before .before .before .before .before .before .check-field-layout-dependency .ensures (c .before .before .before .before .before .before .before .before .before .field-at .ensures .value) .means _) (c .before .before .before .before .before .before .before .check-field-layout-dependency .kept .1 .1 .1 .1 .1 .1 .1 .0) (c .before .before .put-check .ensures)
+
+same-length : tie.Need-same-length Inv-loop μ-loop
+same-length c = (c .before .loop .inv) .list-size
+
+same-length-2 : tie.Need-same-length-2 Inv-loop μ-loop
+same-length-2 c = (c .before .loop .inv) .going .size
+
+returns : tie.Need-returns Inv-loop μ-loop
+returns c = subst (λ vs. Wrote vs (c .before .before .before .before .before .before .args .out .now) (c .before .before .before .before .before .before .args .position) (c .before .loop .out) (c .before .loop .reached)) (sym (struct-violations _ (c .before .before .before .before .before .before .args .subject) (c .before .before .before .before .before .before .pre .1 .1))) (fielding-end (c .before .loop .inv) (omega arith))
+
+pub validate-struct-field-constraints-spec : {M : Type 1} → statement M
+validate-struct-field-constraints-spec =
+    tie.close
+    (tie.spec
+    Inv-loop
+    μ-loop
+    add-next
+    loop-holds
+    field-at-requires
+    sub-check-field-layout-dependency
+    check-field-layout-dependency-requires
+    put-check-requires
+    sub-left
+    loop-less
+    loop-again
+    same-length
+    same-length-2
+    returns)

@@ -1,0 +1,376 @@
+// The validators: they go through references, fields and definitions, and write a record for each violation.
+use bundle::Layout;
+use bundle::Step;
+use checks::Check;
+use checks::Reference;
+use fields::Shape;
+use violation::Path;
+use violation::Record;
+ghost use mathlib.Core.Path.{_≡_};
+ghost use mathlib.Core.Bool.{true, false};
+ghost use mathlib.Core.List.{[]};
+ghost use Prim.Native.Nat.{ℕ, _+_, _*_, _≤_, _<_};
+ghost use lib.ListN.{length, getD};
+ghost use Rattle.meaning.specs.Limits.{definitionLimit};
+ghost use Rattle.meaning.specs.Lists.{filterMap, push};
+ghost use Rattle.meaning.specs.Violations.{violations};
+ghost use Rattle.bundle.specs.Definitions.{bundleOf};
+ghost use Rattle.bundle.specs.Opened.{LayoutOf};
+ghost use Rattle.sizes.specs.Paths.{Fit};
+ghost use Rattle.sizes.specs.Scan.{pathAt, pathsFrom, referencesFrom, Fits};
+ghost use Rattle.sizes.specs.Tests.{Acyclic, Kept};
+ghost use Rattle.fields.specs.Shapes.{StructAt, EnumAt, ArrayAt};
+ghost use Rattle.violation.specs.Records.{padded};
+ghost use Rattle.checks.specs.Checks.{violationOf, Fitting, Checked, Known};
+ghost use Rattle.validate.specs.Validating.{Recorded, Wrote, Room, recordWith, pathOfTwo, checkReference, violationsOf, violationsAt};
+
+// How far a report is written: the place behind it, and the count of its violations.
+pub struct Position {
+    pub at: usize,
+    pub count: usize,
+}
+
+// A definition: its number, its name, and where its type starts.
+pub struct Subject {
+    pub number: usize,
+    pub name: u16,
+    pub at: usize,
+}
+
+// Name k of the n names of the reference at `path`, and 0 where there are no more.
+fn name_of(s: &[u8], path: usize, n: usize, k: usize) -> u16
+    requires { ⌜ Fit (now s) path × (n ≡ length (pathAt (now s) path)) × (k < 4) ⌝ }
+    ensures { λ r. ⌜ r ≡ getD (pathAt (now (s .entry)) path) k 0 ⌝ }
+{
+    if n <= k {
+        return 0;
+    }
+    bundle::u16_at(s, path + 1 + 2 * k)
+}
+
+// The names of the reference at `path`.
+fn read_path(s: &[u8], path: usize) -> Path
+    requires { ⌜ Fit (now s) path ⌝ }
+    ensures { λ r. ⌜ (r ≡ padded (pathAt (now (s .entry)) path)) × (length (pathAt (now (s .entry)) path) ≤ 4) ⌝ }
+{
+    let n = sizes::path_length(s, path);
+    Path {
+        count: n as u8,
+        first: name_of(s, path, n, 0),
+        second: name_of(s, path, n, 1),
+        third: name_of(s, path, n, 2),
+        fourth: name_of(s, path, n, 3),
+    }
+}
+
+// The record of a violation with a written path.
+fn written(s: &[u8], kind: u8, path: usize, size: usize) -> Record
+    requires { ⌜ Fit (now s) path ⌝ }
+    ensures { λ r. ⌜ (r ≡ recordWith kind (padded (pathAt (now (s .entry)) path)) size) × (length (pathAt (now (s .entry)) path) ≤ 4) ⌝ }
+{
+    let names = read_path(s, path);
+    Record { kind: kind, path: names, length: size }
+}
+
+// The record of a violation with a path of two names, or of none where they are 0.
+fn unwritten(kind: u8, count: u8, first: u16, second: u16, size: usize) -> Record
+    ensures { λ r. ⌜ r ≡ recordWith kind (pathOfTwo count first second) size ⌝ }
+{
+    let path = Path { count: count, first: first, second: second, third: 0, fourth: 0 };
+    Record { kind: kind, path: path, length: size }
+}
+
+// What the record of a violation says, and the type 0 where there is none.
+fn record_of(s: &[u8], check: Check) -> Record
+    requires { ⌜ ((room : ℕ) × Fitting (now s) room check) ⌝ }
+    ensures { λ r. ⌜ Recorded (now (s .entry)) check r ⌝ }
+{
+    match check {
+        Check::Fine => unwritten(0, 0, 0, 0, 0),
+        Check::EnumForward(t, f) => unwritten(1, 2, t, f, 3),
+        Check::EnumCycle(p, n) => written(s, 2, p, n),
+        Check::ArrayCycle(p, n) => written(s, 3, p, n),
+        Check::FieldForward(p) => written(s, 4, p, 3),
+        Check::VariableElement => unwritten(5, 0, 0, 0, 1),
+        Check::JaggedReference => unwritten(6, 0, 0, 0, 2),
+        Check::JaggedInline => unwritten(7, 0, 0, 0, 1),
+        Check::NestedJagged => unwritten(8, 0, 0, 0, 1),
+    }
+}
+
+// Writes the record of what a check of definition `i` found, with the chain that stands in the list.
+fn put_check(
+    s: &[u8],
+    out: &mut [u8],
+    position: Position,
+    i: usize,
+    name: u16,
+    check: Check,
+    list: &[u16],
+) -> Position
+    requires { ⌜ (i < definitionLimit) × Fitting (now s) (length (now list)) check ⌝ }
+    requires { ⌜ Room position (push (violationOf (now s) i name (now list) check) []) ⌝ }
+    ensures { λ r. ⌜ Wrote (push (violationOf (now (s .entry)) i name (now (list .entry)) check) []) (now (out .entry)) position (now (out .exit)) r ⌝ }
+{
+    let found = record_of(s, check);
+    if found.kind == 0 {
+        return position;
+    }
+    let at = violation::put_violation(out, position.at, i as u16, name, found, list);
+    Position { at: at, count: position.count + 1 }
+}
+
+// The check of one reference of an enum's tag, or of an array's size where `tag` is not set.
+fn check_reference(
+    s: &[u8],
+    places: &[u16; 256],
+    layout: Layout,
+    known: &[u8; 256],
+    name: u16,
+    tag: bool,
+    path: usize,
+    list: &mut [u16],
+) -> Check
+    requires { ⌜ LayoutOf (now s) layout (now places) × Known (now s) (layout .definitions) (now known) ⌝ }
+    requires { ⌜ Fit (now s) path × (1025 ≤ length (now list)) ⌝ }
+    ensures { λ r. ⌜ Checked (now (s .entry)) name (now (list .exit)) r (λ i. checkReference tag (bundleOf (now (s .entry))) i name (pathAt (now (s .entry)) path)) ⌝ }
+{
+    if tag {
+        return checks::check_enum_tag_layout_cycle(s, places, layout, known, name, path, list);
+    }
+    checks::check_array_size_layout_cycle(s, layout, name, path, list)
+}
+
+// Checks each reference from `at` to `end`, and writes what is found.
+fn validate_references(
+    s: &[u8],
+    places: &[u16; 256],
+    layout: Layout,
+    known: &[u8; 256],
+    subject: Subject,
+    tag: bool,
+    at: usize,
+    end: usize,
+    list: &mut [u16],
+    out: &mut [u8],
+    position: Position,
+) -> Position
+    requires { ⌜ LayoutOf (now s) layout (now places) × Known (now s) (layout .definitions) (now known) × (subject .number < definitionLimit) ⌝ }
+    requires { ⌜ (1025 ≤ length (now list)) × (end ≤ length (now s)) × Fits (now s) (referencesFrom (now s) at end) ⌝ }
+    requires { ⌜ Room position (filterMap (checkReference tag (bundleOf (now s)) (subject .number) (subject .name)) (pathsFrom (now s) at end)) ⌝ }
+    ensures { λ r. ⌜ Wrote (filterMap (checkReference tag (bundleOf (now (s .entry))) (subject .number) (subject .name)) (pathsFrom (now (s .entry)) at end)) (now (out .entry)) position (now (out .exit)) r ⌝ }
+{
+    let i = subject.number;
+    let name = subject.name;
+    let mut next = at;
+    let mut reached = position;
+    while next < end {
+        let reference = checks::reference_at(s, next, end);
+        let Reference::At(path, after) = reference else {
+            return reached;
+        };
+        let check = check_reference(s, places, layout, known, name, tag, path, list);
+        reached = put_check(s, out, reached, i, name, check, list);
+        next = after;
+    }
+    reached
+}
+
+// Writes the violations of an enum: for each reference of its tag.
+fn validate_enum_tag_constraints(
+    s: &[u8],
+    places: &[u16; 256],
+    layout: Layout,
+    known: &[u8; 256],
+    subject: Subject,
+    list: &mut [u16],
+    out: &mut [u8],
+    position: Position,
+) -> Position
+    requires { ⌜ LayoutOf (now s) layout (now places) × Known (now s) (layout .definitions) (now known) × (subject .number < definitionLimit) ⌝ }
+    requires { ⌜ (1025 ≤ length (now list)) × EnumAt 24 (now s) (subject .at) × Room position (violationsOf (now s) subject) ⌝ }
+    ensures { λ r. ⌜ Wrote (violationsOf (now (s .entry)) subject) (now (out .entry)) position (now (out .exit)) r ⌝ }
+{
+    let start = subject.at + 12;
+    let step = bundle::expr_at(s, start, 23);
+    match step {
+        Step::Next(end) => validate_references(
+            s,
+            places,
+            layout,
+            known,
+            subject,
+            true,
+            start,
+            end,
+            list,
+            out,
+            position,
+        ),
+        Step::Refused(_) => position,
+    }
+}
+
+// Writes the violations of an array: for its element, then for each reference of its size.
+fn validate_array_size_constraints(
+    s: &[u8],
+    places: &[u16; 256],
+    layout: Layout,
+    known: &[u8; 256],
+    kept: &mut [u8; 256],
+    nested: &mut [u8; 256],
+    subject: Subject,
+    jagged: u8,
+    list: &mut [u16],
+    out: &mut [u8],
+    position: Position,
+) -> Position
+    requires { ⌜ LayoutOf (now s) layout (now places) × Known (now s) (layout .definitions) (now known) × (subject .number < definitionLimit) ⌝ }
+    requires { ⌜ (1025 ≤ length (now list)) × ArrayAt 24 (now s) (subject .at) jagged × Room position (violationsOf (now s) subject) ⌝ }
+    requires { ⌜ Acyclic (now s) × Kept (now s) false (now kept) × Kept (now s) true (now nested) ⌝ }
+    ensures { λ r. ⌜ Wrote (violationsOf (now (s .entry)) subject) (now (out .entry)) position (now (out .exit)) r × Kept (now (s .entry)) false (now (kept .exit)) × Kept (now (s .entry)) true (now (nested .exit)) ⌝ }
+{
+    let start = subject.at + 11;
+    let i = subject.number;
+    let name = subject.name;
+    let step = bundle::expr_at(s, start, 23);
+    match step {
+        Step::Next(element) => {
+            let check = checks::check_array_element_type_size(
+                s,
+                places,
+                layout.definitions,
+                kept,
+                nested,
+                name,
+                jagged,
+                element,
+                list,
+            );
+            let next = put_check(s, out, position, i, name, check, list);
+            validate_references(
+                s,
+                places,
+                layout,
+                known,
+                subject,
+                false,
+                start,
+                element,
+                list,
+                out,
+                next,
+            )
+        }
+        Step::Refused(_) => position,
+    }
+}
+
+// Writes the violations of a struct: at most one for each of its `count` fields.
+fn validate_struct_field_constraints(
+    s: &[u8],
+    places: &[u16; 256],
+    layout: Layout,
+    known: &[u8; 256],
+    subject: Subject,
+    count: usize,
+    list: &mut [u16],
+    out: &mut [u8],
+    position: Position,
+) -> Position
+    requires { ⌜ LayoutOf (now s) layout (now places) × Known (now s) (layout .definitions) (now known) × (subject .number < definitionLimit) ⌝ }
+    requires { ⌜ (1025 ≤ length (now list)) × StructAt 24 (now s) (subject .at) count × Room position (violationsOf (now s) subject) ⌝ }
+    ensures { λ r. ⌜ Wrote (violationsOf (now (s .entry)) subject) (now (out .entry)) position (now (out .exit)) r ⌝ }
+{
+    let i = subject.number;
+    let name = subject.name;
+    let mut next = subject.at + 12;
+    let mut left = count;
+    let mut reached = position;
+    while 0 < left {
+        let field = fields::field_at(s, next, 23);
+        let check = checks::check_field_layout_dependency(
+            s,
+            places,
+            layout,
+            known,
+            name,
+            count - left,
+            field,
+            list,
+        );
+        reached = put_check(s, out, reached, i, name, check, list);
+        next = field.next;
+        left -= 1;
+    }
+    reached
+}
+
+// Writes the violations of definition `i`: an enum, array or struct goes to its validator, other kinds to none.
+fn validate_type(
+    s: &[u8],
+    places: &[u16; 256],
+    layout: Layout,
+    known: &[u8; 256],
+    kept: &mut [u8; 256],
+    nested: &mut [u8; 256],
+    i: usize,
+    list: &mut [u16],
+    out: &mut [u8],
+    position: Position,
+) -> Position
+    requires { ⌜ LayoutOf (now s) layout (now places) × Known (now s) (layout .definitions) (now known) × (i < layout .definitions) ⌝ }
+    requires { ⌜ (1025 ≤ length (now list)) × Room position (violationsAt (now s) (now places) i) ⌝ }
+    requires { ⌜ Acyclic (now s) × Kept (now s) false (now kept) × Kept (now s) true (now nested) ⌝ }
+    ensures { λ r. ⌜ Wrote (violationsAt (now (s .entry)) (now (places .entry)) i) (now (out .entry)) position (now (out .exit)) r × Kept (now (s .entry)) false (now (kept .exit)) × Kept (now (s .entry)) true (now (nested .exit)) ⌝ }
+{
+    let place = fields::place_of(s, places, layout.definitions, i);
+    let subject = Subject { number: i, name: place.name, at: place.at };
+    let shape = fields::shape_at(s, place.at, 24);
+    match shape {
+        Shape::Struct(n) => validate_struct_field_constraints(s, places, layout, known, subject, n, list, out, position),
+        Shape::Enum => validate_enum_tag_constraints(s, places, layout, known, subject, list, out, position),
+        Shape::Array(jagged) => validate_array_size_constraints(
+            s,
+            places,
+            layout,
+            known,
+            kept,
+            nested,
+            subject,
+            jagged,
+            list,
+            out,
+            position,
+        ),
+        Shape::TypeRef(_) => position,
+        Shape::Plain => position,
+    }
+}
+
+// Writes the violations of all definitions, in order.
+pub fn validate_layout_constraints(
+    s: &[u8],
+    places: &[u16; 256],
+    layout: Layout,
+    known: &[u8; 256],
+    kept: &mut [u8; 256],
+    nested: &mut [u8; 256],
+    list: &mut [u16],
+    out: &mut [u8],
+    position: Position,
+) -> Position
+    requires { ⌜ LayoutOf (now s) layout (now places) × Known (now s) (layout .definitions) (now known) ⌝ }
+    requires { ⌜ (1025 ≤ length (now list)) × Room position (violations (bundleOf (now s))) ⌝ }
+    requires { ⌜ Acyclic (now s) × Kept (now s) false (now kept) × Kept (now s) true (now nested) ⌝ }
+    ensures { λ r. ⌜ Wrote (violations (bundleOf (now (s .entry)))) (now (out .entry)) position (now (out .exit)) r × Kept (now (s .entry)) false (now (kept .exit)) × Kept (now (s .entry)) true (now (nested .exit)) ⌝ }
+{
+    let count = layout.definitions;
+    let mut i = 0;
+    let mut reached = position;
+    while i < count {
+        reached = validate_type(s, places, layout, known, kept, nested, i, list, out, reached);
+        i += 1;
+    }
+    reached
+}
