@@ -100,8 +100,8 @@ module _ (s : List ℕ) (n at : ℕ) {list : List ℕ} {r : Check} (c : Checked 
   unfolding checkJaggedArrayConstraints
   jagged-kind o = record {
     means = λ i.
-      let p = onlyIf (containsJaggedArray (bundleOf s) (typeAt 23 s at)) (some (violation nestedJagged i n [] (n ∷ []))) in
-      sym (found-first s i n list r p o) ∙ ap (λ q. orElse q p) (c .means i);
+        let p = onlyIf (containsJaggedArray (bundleOf s) (typeAt 23 s at)) (some (violation nestedJagged i n [] (n ∷ []))) in
+        sym (found-first s i n list r p o) ∙ ap (λ q. orElse q p) (c .means i);
     fits = c .fits;
   }
 

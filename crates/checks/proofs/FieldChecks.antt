@@ -71,9 +71,9 @@ module _ (s : List ℕ) (n j : ℕ) (t : Ty) where
 pub forward-in : (s : List ℕ) (n j at end : ℕ) {r : Found} → Next end ≡ stepOf (readTy 24 s at) → Forwarded s n j (typeAt 24 s at) (referencesFrom s at end) r → ForwardIn s n j (typeAt 24 s at) r
 forward-in s n j at end {r} e g = record {
   first = λ i f.
-    ap (findMap (checkForwardReference (bundleOf s) i n j f (typeAt 24 s at))) (sym (type-references 24 at end s (omega arith) e))
-    ∙ find-first s n j (typeAt 24 s at) i f (referencesFrom s at end)
-    ∙ ap (forwardAt s i n f) (sym (g .first));
+      ap (findMap (checkForwardReference (bundleOf s) i n j f (typeAt 24 s at))) (sym (type-references 24 at end s (omega arith) e))
+      ∙ find-first s n j (typeAt 24 s at) i f (referencesFrom s at end)
+      ∙ ap (forwardAt s i n f) (sym (g .first));
   fit = g .fit;
   one = one-field s n j (typeAt 24 s at) (referencesFrom s at end) r (g .first);
 }

@@ -54,7 +54,13 @@ fn set_chain(list: &mut [u16], a: u16, b: u16, c: u16)
 }
 
 // The chain from one name to another over the edges of the bundle, into the first places of the list.
-fn find_layout_dependency_chain(s: &[u8], layout: Layout, from: u16, to: u16, list: &mut [u16]) -> Found
+fn find_layout_dependency_chain(
+    s: &[u8],
+    layout: Layout,
+    from: u16,
+    to: u16,
+    list: &mut [u16],
+) -> Found
     requires { ⌜ GraphOf (now s) layout ⌝ }
     ensures { λ r. ⌜ Answers (findLayoutDependencyChain (bundleOf (now (s .entry))) from to) (now (list .entry)) (now (list .exit)) r ⌝ }
 {
@@ -160,7 +166,13 @@ pub fn check_enum_tag_layout_cycle(
 }
 
 // Type 3, for the reference at `path` of an array's size.
-pub fn check_array_size_layout_cycle(s: &[u8], layout: Layout, name: u16, path: usize, list: &mut [u16]) -> Check
+pub fn check_array_size_layout_cycle(
+    s: &[u8],
+    layout: Layout,
+    name: u16,
+    path: usize,
+    list: &mut [u16],
+) -> Check
     requires { ⌜ GraphOf (now s) layout × Fit (now s) path × (1025 ≤ length (now list)) ⌝ }
     ensures { λ r. ⌜ Checked (now (s .entry)) name (now (list .exit)) r (λ i. checkArraySizeLayoutCycle (bundleOf (now (s .entry))) i name (pathAt (now (s .entry)) path)) ⌝ }
 {
@@ -271,7 +283,17 @@ fn find_forward(
 {
     let step = bundle::type_at(s, at, 24);
     match step {
-        bundle::Step::Next(end) => find_forward_reference(s, places, layout, name, j, at, depends, at, end),
+        bundle::Step::Next(end) => find_forward_reference(
+            s,
+            places,
+            layout,
+            name,
+            j,
+            at,
+            depends,
+            at,
+            end,
+        ),
         bundle::Step::Refused(_) => sizes::Found::Nothing,
     }
 }

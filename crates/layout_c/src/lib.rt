@@ -3,7 +3,7 @@
 use bundle::Answer;
 ghost use mathlib.Core.Path.{_≡_};
 ghost use Rattle.meaning.specs.Calls.{answerOf, acceptance};
-ghost use Rattle.meaning.specs.Due.{renumbering, chaining};
+ghost use Rattle.meaning.specs.Due.{reporting, renumbering, chaining};
 ghost use Rattle.bundle.specs.Opened.{answerMeant};
 ghost use Rattle.layout_c.specs.Convention.{codeOf, writtenAfter, CallInC};
 
@@ -33,6 +33,16 @@ pub extern "C" fn layout_accept(bundle: &[u8]) -> u8
     ensures { λ r. ⌜ r ≡ codeOf (answerOf (acceptance (now (bundle .entry))) 0) ⌝ }
 {
     code(bundle::accept(bundle))
+}
+
+// The report, into the first places of `out`.
+#[no_mangle]
+pub extern "C" fn layout_report(bundle: &[u8], out: &mut [u8], written: &mut usize) -> u8
+    ensures { λ r. ⌜ CallInC (reporting (now (bundle .entry))) (now (out .entry)) (now (out .exit)) (now (written .entry)) (now (written .exit)) r ⌝ }
+{
+    let answer = report::report(bundle, out);
+    *written = length_out(answer, *written);
+    code(answer)
 }
 
 // The bundle with its names renumbered, into the first places of `out`.

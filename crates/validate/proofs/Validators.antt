@@ -103,7 +103,7 @@ fielding-start s d {count} g list out p r = record {
   pass = record { bound = omega arith; reads = g .reads };
   going = subst (λ k. Going (fieldsFound s (d .number) (d .name) count (d .at + 12)) out p
       (filterMap (checkFieldLayoutDependency (bundleOf s) (d .number) (d .name)) (enumerate k (listOf (membersAt 23 0x50 count s (d .at + 12))))) out p) (omega arith)
-    (going-start (subst (Room p) (struct-violations s d g) r));
+      (going-start (subst (Room p) (struct-violations s d g) r));
   list-size = refl;
 }
 

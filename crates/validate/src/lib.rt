@@ -69,15 +69,29 @@ fn written(s: &[u8], kind: u8, path: usize, size: usize) -> Record
     ensures { λ r. ⌜ (r ≡ recordWith kind (padded (pathAt (now (s .entry)) path)) size) × (length (pathAt (now (s .entry)) path) ≤ 4) ⌝ }
 {
     let names = read_path(s, path);
-    Record { kind: kind, path: names, length: size }
+    Record {
+        kind: kind,
+        path: names,
+        length: size,
+    }
 }
 
 // The record of a violation with a path of two names, or of none where they are 0.
 fn unwritten(kind: u8, count: u8, first: u16, second: u16, size: usize) -> Record
     ensures { λ r. ⌜ r ≡ recordWith kind (pathOfTwo count first second) size ⌝ }
 {
-    let path = Path { count: count, first: first, second: second, third: 0, fourth: 0 };
-    Record { kind: kind, path: path, length: size }
+    let path = Path {
+        count: count,
+        first: first,
+        second: second,
+        third: 0,
+        fourth: 0,
+    };
+    Record {
+        kind: kind,
+        path: path,
+        length: size,
+    }
 }
 
 // What the record of a violation says, and the type 0 where there is none.
@@ -117,7 +131,10 @@ fn put_check(
         return position;
     }
     let at = violation::put_violation(out, position.at, i as u16, name, found, list);
-    Position { at: at, count: position.count + 1 }
+    Position {
+        at: at,
+        count: position.count + 1,
+    }
 }
 
 // The check of one reference of an enum's tag, or of an array's size where `tag` is not set.
@@ -325,11 +342,34 @@ fn validate_type(
     ensures { λ r. ⌜ Wrote (violationsAt (now (s .entry)) (now (places .entry)) i) (now (out .entry)) position (now (out .exit)) r × Kept (now (s .entry)) false (now (kept .exit)) × Kept (now (s .entry)) true (now (nested .exit)) ⌝ }
 {
     let place = fields::place_of(s, places, layout.definitions, i);
-    let subject = Subject { number: i, name: place.name, at: place.at };
+    let subject = Subject {
+        number: i,
+        name: place.name,
+        at: place.at,
+    };
     let shape = fields::shape_at(s, place.at, 24);
     match shape {
-        Shape::Struct(n) => validate_struct_field_constraints(s, places, layout, known, subject, n, list, out, position),
-        Shape::Enum => validate_enum_tag_constraints(s, places, layout, known, subject, list, out, position),
+        Shape::Struct(n) => validate_struct_field_constraints(
+            s,
+            places,
+            layout,
+            known,
+            subject,
+            n,
+            list,
+            out,
+            position,
+        ),
+        Shape::Enum => validate_enum_tag_constraints(
+            s,
+            places,
+            layout,
+            known,
+            subject,
+            list,
+            out,
+            position,
+        ),
         Shape::Array(jagged) => validate_array_size_constraints(
             s,
             places,
@@ -369,7 +409,18 @@ pub fn validate_layout_constraints(
     let mut i = 0;
     let mut reached = position;
     while i < count {
-        reached = validate_type(s, places, layout, known, kept, nested, i, list, out, reached);
+        reached = validate_type(
+            s,
+            places,
+            layout,
+            known,
+            kept,
+            nested,
+            i,
+            list,
+            out,
+            reached,
+        );
         i += 1;
     }
     reached

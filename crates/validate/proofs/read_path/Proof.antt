@@ -10,7 +10,7 @@ path-length-requires : tie.Need-path-length-requires
 path-length-requires c κs = omega (arith, c .before .pre)
 
 cast-t4 : tie.Need-cast-t4
-cast-t4 c = record { fits = omega (arith, path-few (c .before .before .args .s .now) (c .before .before .args .path) (c .before .shared-slice-known .given (c .before .before .args .path) .fits) , c .path-length .ensures) }
+cast-t4 c = record { fits = omega (arith, path-few (c .before .before .args .s .now) (c .before .before .args .path) (c .before .shared-slice-known .given (c .before .before .args .path) .fits), c .path-length .ensures) }
 
 name-of-requires : tie.Need-name-of-requires
 name-of-requires c κs = search needs

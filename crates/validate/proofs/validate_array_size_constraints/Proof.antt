@@ -4,7 +4,6 @@ use Rattle.validate.proofs.validate_array_size_constraints.Statement.{s
 use Rattle.validate.proofs.validate_array_size_constraints.Tie as tie
 use native.Mathlib.Omega.{arith}
 use mathlib.Core.Path.{sym, _∙_}
-
 use Rattle.sizes.proofs.ReferenceLaws.{expr-bound, expr-fits}
 use Rattle.validate.proofs.Validators.{size-no, element-reads, array-violations, front-room, rest-room, rest-wrote}
 

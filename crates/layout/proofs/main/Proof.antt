@@ -1,0 +1,59 @@
+-- `layout::main` meets its contract: what it writes lies within its buffer.
+use borrow.Author.Needs.{needs}
+use Rattle.layout.proofs.main.Statement.{statement}
+use Rattle.layout.proofs.main.Tie as tie
+use mathlib.Core.Path.{sym}
+use lib.Seq.{length-take-le}
+
+input-buffer-requires : tie.Need-input-buffer-requires
+input-buffer-requires c κs = search needs
+
+slice-aggregate-read-full : tie.Need-slice-aggregate-read-full
+slice-aggregate-read-full c = search needs
+
+read-full-requires : tie.Need-read-full-requires
+read-full-requires c κs = search needs
+
+large-buffer-requires : tie.Need-large-buffer-requires
+large-buffer-requires c κs = search needs
+
+array-share-prefix-input : tie.Need-array-share-prefix-input
+array-share-prefix-input c = search needs
+
+slice-aggregate-respond : tie.Need-slice-aggregate-respond
+slice-aggregate-respond c = search needs
+
+slice-aggregate-respond-2 : tie.Need-slice-aggregate-respond-2
+slice-aggregate-respond-2 c = search needs
+
+respond-requires : tie.Need-respond-requires
+respond-requires c κs = search needs
+
+array-share-prefix-out : tie.Need-array-share-prefix-out
+array-share-prefix-out c = search needs
+
+slice-aggregate-write-all : tie.Need-slice-aggregate-write-all
+slice-aggregate-write-all c = sym (length-take-le _ _ (c .before .before .respond .ensures .0))
+
+write-all-requires : tie.Need-write-all-requires
+write-all-requires c κs = search needs
+
+returns : tie.Need-returns
+returns c = search needs
+
+pub main-spec : {M : Type 1} → statement M
+main-spec =
+    tie.close
+    (tie.spec
+    input-buffer-requires
+    slice-aggregate-read-full
+    read-full-requires
+    large-buffer-requires
+    array-share-prefix-input
+    slice-aggregate-respond
+    slice-aggregate-respond-2
+    respond-requires
+    array-share-prefix-out
+    slice-aggregate-write-all
+    write-all-requires
+    returns)

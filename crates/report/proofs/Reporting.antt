@@ -1,0 +1,114 @@
+-- The report as a call writes it.
+use Prim.Native.Nat.{ℕ, _+_, _≤_, _<_}
+use native.Mathlib.Omega.{arith}
+use native.Mathlib.Decide.{decLt}
+use mathlib.Core.Logic.{by-cases}
+use mathlib.Core.Bool.{Bool, true, false}
+use mathlib.Core.Path.{_≡_, refl, sym, ap, subst, _∙_}
+use mathlib.Core.List.{List, [], _∷_, _++_}
+use lib.Dec.{eqb}
+use lib.ListN.{length, getD, set, drop, length-set}
+use lib.Seq.{sets-eq, getD-set-same, getD-set-other}
+use borrow.Author.Tests.{le-leb, lt-leb}
+use Rattle.names.specs.Documents.{bytes}
+use Rattle.meaning.specs.Calls.{Answer, accepted, refusedWith, Call, result, answerOf, placesAfter, onBundle}
+use Rattle.meaning.specs.Circle.{circles}
+use Rattle.meaning.specs.Encoding.{Bytes}
+use Rattle.meaning.specs.Limits.{definitionLimit}
+use Rattle.meaning.specs.Report.{twoBytes, report}
+use Rattle.meaning.specs.Tree.{Bundle}
+use Rattle.meaning.specs.Violations.{violations}
+use Rattle.meaning.proofs.Counts.{violations-few}
+use Rattle.meaning.proofs.ReadWithin.{bundle-within}
+use Rattle.bundle.specs.declared.Answer.the-variants.{Accepted, Refused}
+use Rattle.bundle.specs.declared.Layout.{Layout}
+use Rattle.bundle.specs.Definitions.{bundleOf, Table}
+use Rattle.bundle.specs.Opened.{LayoutOf, answerMeant}
+use Rattle.bundle.proofs.AnswerLaws.{due-opened}
+use Rattle.sizes.specs.Tests.{Acyclic, Kept, markOf, definitionSizeDepends}
+use Rattle.checks.specs.Checks.{Known}
+use Rattle.violation.specs.Records.{Puts}
+use Rattle.violation.proofs.Putting.{puts-both}
+use Rattle.validate.specs.declared.Position.{Position}
+use Rattle.validate.specs.Validating.{recordBytes, Wrote, Room}
+
+-- the first i definitions are noted
+pub record Noting (s : List ℕ) (count : ℕ) (kept known : List ℕ) (i : ℕ) : Type 0 where
+  pub bound : i ≤ count
+  pub size : length known ≡ definitionLimit
+  pub keeps : Kept s false kept
+  pub is : (k : ℕ) → k < i → eqb (getD known k 0) 2 ≡ definitionSizeDepends (bundleOf s) k
+
+pub noting-start : (s : List ℕ) (count : ℕ) (known : List ℕ) {kept : List ℕ} → Kept s false kept → length known ≡ definitionLimit → Noting s count kept known 0
+noting-start s count known k l = record { bound = omega arith; size = l; keeps = k; is = λ k h. absurd (omega arith) }
+
+marked : (t : Bool) → eqb (markOf t) 2 ≡ t
+marked true = refl
+marked false = refl
+
+module _ {s : List ℕ} {count : ℕ} {kept known : List ℕ} {i : ℕ} (c : Noting s count kept known i) (few : count ≤ definitionLimit) where
+  pub noting-next : i < count → {kept′ : List ℕ} → Kept s false kept′ → (t : Bool) (m : ℕ) → t ≡ definitionSizeDepends (bundleOf s) i → m ≡ markOf t → Noting s count kept′ (set known i m) (i + 1)
+  noting-next h k t m e q = record {
+    bound = omega arith;
+    size = length-set known i m ∙ c .size;
+    keeps = k;
+    is = λ j l.
+        by-cases (decLt j i)
+        (λ (a : j < i). ap (λ x. eqb x 2) (getD-set-other known i j m 0 (λ z. omega arith)) ∙ c .is j a)
+        (λ (a : ¬ (j < i)).
+        let z : j ≡ i = omega arith in
+        rw z (ap (λ x. eqb x 2) (getD-set-same known i m 0 (omega (arith, c .size)) ∙ q) ∙ marked t ∙ e));
+  }
+
+  pub noting-end : count ≤ i → Known s count known
+  noting-end h = record { few = few; is = λ j l. c .is j (omega arith) }
+
+-- a bundle that was read has few violations
+pub read-few : (s : List ℕ) {l : Layout} {places : List ℕ} → Bytes s → LayoutOf s l places → length (violations (bundleOf s)) ≤ 65535
+read-few s b g = let h = violations-few (bundleOf s) (bundle-within s b (bundleOf s) (length s) (g .read)) in omega arith
+
+-- a report starts behind its head
+abbrev start : Position
+start = record { at = 3; count = 0 }
+
+pub start-room : (b : Bundle) → length (violations b) ≤ 65535 → Room start (violations b)
+start-room b h = record { far = omega arith; few = omega arith }
+
+-- the length of the report is what the first run counts
+module _ (b : Bundle) {nowhere nowhere′ : List ℕ} {c : Position} (w : Wrote (violations b) nowhere start nowhere′ c) where
+  counted-size : length (report b) ≡ c .at
+  unfolding report
+  counted-size = omega (arith, w .puts .behind)
+
+  -- the report is longer than the places
+  pub too-long : (out : List ℕ) → length out < c .at → Call (result (report b)) out out (answerMeant (Refused 9))
+  unfolding answerMeant answerOf placesAfter
+  too-long out h =
+      let t = lt-leb (length (report b)) (length out) (omega (arith, counted-size)) in
+      record { answer = rw t; places = rw t }
+
+  -- the head and the records are the report
+  report-puts : {out o₁ o₂ out′ : List ℕ} {m₁ m₂ : ℕ} {e : Position} → Puts (0x70 ∷ []) out 0 o₁ m₁ → Puts (bytes (twoBytes (c .count))) o₁ m₁ o₂ m₂
+      → Wrote (violations b) o₂ start out′ e → Puts (report b) out 0 out′ (e .at)
+  unfolding report
+  report-puts {out} {o₁} {o₂} {out′} {m₁} {m₂} p q r =
+      let three : m₂ ≡ 3 = omega (arith, p .behind, q .behind) in
+      let counts : c .count ≡ length (violations b) = omega (arith, w .counts) in
+      puts-both p (puts-both (subst (λ k. Puts (bytes (twoBytes k)) o₁ m₁ o₂ 3) counts (subst (λ k. Puts (bytes (twoBytes (c .count))) o₁ m₁ o₂ k) three q)) (r .puts))
+
+  pub written-whole : {out o₁ o₂ out′ : List ℕ} {m₁ m₂ : ℕ} {e : Position} → c .at ≤ length out → Puts (0x70 ∷ []) out 0 o₁ m₁ → Puts (bytes (twoBytes (c .count))) o₁ m₁ o₂ m₂
+      → Wrote (violations b) o₂ start out′ e → Call (result (report b)) out out′ (answerMeant (Accepted (e .at)))
+  unfolding answerMeant answerOf placesAfter
+  written-whole {out} h p q r =
+      let t = le-leb (length (report b)) (length out) (omega (arith, counted-size)) in
+      let g = report-puts p q r in
+      let z : 0 + length (report b) ≡ length (report b) = omega arith in
+      record {
+        answer = rw t (ap accepted (g .behind ∙ z));
+        places = rw t (g .written ∙ sets-eq (report b) out 0 (omega (arith, counted-size)) ∙ ap (λ k. report b ++ drop k out) z);
+      }
+
+-- a call for an accepted bundle
+pub called : {s places : List ℕ} {l : Layout} {out out′ : List ℕ} {a : Answer} → LayoutOf s l places → circles (bundleOf s) ≡ false → Call (result (report (bundleOf s))) out out′ a
+    → Call (onBundle (λ b. result (report b)) s) out out′ a
+called {out = out} {out′} {a} g c h = subst (λ o. Call o out out′ a) (sym (due-opened g c (λ b. result (report b)))) h

@@ -1,0 +1,128 @@
+// The report of a bundle: its violations as bytes, or the number for which it is refused.
+use bundle::Answer;
+use bundle::Layout;
+use bundle::Opening;
+use validate::Position;
+ghost use mathlib.Core.Path.{_≡_};
+ghost use mathlib.Core.Bool.{true, false};
+ghost use Prim.Native.Nat.{_≤_};
+ghost use lib.ListN.{length};
+ghost use Rattle.meaning.specs.Calls.{Call, result};
+ghost use Rattle.meaning.specs.Circle.{circles};
+ghost use Rattle.meaning.specs.Encoding.{Bytes};
+ghost use Rattle.meaning.specs.Limits.{definitionLimit};
+ghost use Rattle.meaning.specs.Due.{reporting};
+ghost use Rattle.meaning.specs.Report.{report};
+ghost use Rattle.meaning.specs.Violations.{violations};
+ghost use Rattle.bundle.specs.Definitions.{bundleOf, Table};
+ghost use Rattle.bundle.specs.Opened.{LayoutOf, answerMeant};
+ghost use Rattle.sizes.specs.Tests.{Acyclic, Kept, markOf};
+ghost use Rattle.checks.specs.Checks.{Known};
+
+// How the answer of a size test is noted.
+fn mark_of(depends: bool) -> u8
+    ensures { λ r. ⌜ r ≡ markOf depends ⌝ }
+{
+    if depends { 2 } else { 1 }
+}
+
+// Notes for each definition whether its size depends on field references.
+fn note_sizes(
+    s: &[u8],
+    places: &[u16; 256],
+    count: usize,
+    kept: &mut [u8; 256],
+    known: &mut [u8; 256],
+)
+    requires { ⌜ Table (now s) count (now places) × Acyclic (now s) × Kept (now s) false (now kept) × (length (now known) ≡ definitionLimit) ⌝ }
+    ensures { λ _. ⌜ Known (now (s .entry)) count (now (known .exit)) × Kept (now (s .entry)) false (now (kept .exit)) ⌝ }
+{
+    let mut i = 0;
+    while i < count {
+        let depends = sizes::type_size_depends_on_field_refs(s, places, count, kept, i);
+        known[i] = mark_of(depends);
+        i += 1;
+    }
+}
+
+// Writes the report, if there is room for all of it. A first run counts and writes nowhere, so that a refusal leaves the places as they are.
+fn write_report(
+    s: &[u8],
+    places: &[u16; 256],
+    layout: Layout,
+    known: &[u8; 256],
+    kept: &mut [u8; 256],
+    nested: &mut [u8; 256],
+    list: &mut [u16],
+    out: &mut [u8],
+) -> Answer
+    requires { ⌜ LayoutOf (now s) layout (now places) × Known (now s) (layout .definitions) (now known) ⌝ }
+    requires { ⌜ (1025 ≤ length (now list)) × (length (violations (bundleOf (now s))) ≤ 65535) ⌝ }
+    requires { ⌜ Acyclic (now s) × Kept (now s) false (now kept) × Kept (now s) true (now nested) ⌝ }
+    ensures { λ r. ⌜ Call (result (report (bundleOf (now (s .entry))))) (now (out .entry)) (now (out .exit)) (answerMeant r) ⌝ }
+{
+    let start = Position { at: 3, count: 0 };
+    let mut nowhere = [0u8; 1];
+    let counted = validate::validate_layout_constraints(
+        s,
+        places,
+        layout,
+        known,
+        kept,
+        nested,
+        list,
+        &mut nowhere,
+        start,
+    );
+    if out.len() < counted.at {
+        return Answer::Refused(9);
+    }
+    let second = violation::put_byte(out, 0, 0x70);
+    violation::put_two(out, second, counted.count as u16);
+    let written = validate::validate_layout_constraints(
+        s,
+        places,
+        layout,
+        known,
+        kept,
+        nested,
+        list,
+        out,
+        start,
+    );
+    Answer::Accepted(written.at)
+}
+
+// The report of an opened bundle.
+fn report_opened(s: &[u8], places: &[u16; 256], layout: Layout, out: &mut [u8]) -> Answer
+    requires { ⌜ LayoutOf (now s) layout (now places) × (circles (bundleOf (now s)) ≡ false) ⌝ }
+    ensures { λ r. ⌜ Call (result (report (bundleOf (now (s .entry))))) (now (out .entry)) (now (out .exit)) (answerMeant r) ⌝ }
+{
+    let mut known = [0u8; 256];
+    let mut kept = [0u8; 256];
+    let mut nested = [0u8; 256];
+    let mut list = [0u16; 1025];
+    note_sizes(s, places, layout.definitions, &mut kept, &mut known);
+    write_report(
+        s,
+        places,
+        layout,
+        &known,
+        &mut kept,
+        &mut nested,
+        &mut list,
+        out,
+    )
+}
+
+// Writes the report of a bundle into the first places of `out`. A refusal writes nothing.
+pub fn report(bundle: &[u8], out: &mut [u8]) -> Answer
+    ensures { λ r. ⌜ Call (reporting (now (bundle .entry))) (now (out .entry)) (now (out .exit)) (answerMeant r) ⌝ }
+{
+    let mut places = [0u16; 256];
+    let opening = bundle::open(bundle, &mut places);
+    match opening {
+        Opening::Opened(layout) => report_opened(bundle, &places, layout, out),
+        Opening::Refused(k) => Answer::Refused(k),
+    }
+}
