@@ -81,11 +81,38 @@ fn run_case(space: &mut [u8], due: &mut [u8], out: &mut [u8]) -> Outcome {
     }
 }
 
-// Writes how many cases gave the same answer and how many another one.
-fn print(same: u64, other: u64) {
-    io::print_decimal(STDOUT_FILENO, same);
+// How many cases gave the answer due, and how many another one.
+pub struct Tally {
+    pub same: u64,
+    pub other: u64,
+}
+
+fn counted(tally: Tally, outcome: Outcome) -> Tally {
+    match outcome {
+        Outcome::Same => Tally {
+            same: std::num::wrapping_add_u64(tally.same, 1),
+            other: tally.other,
+        },
+        Outcome::Differs => Tally {
+            same: tally.same,
+            other: std::num::wrapping_add_u64(tally.other, 1),
+        },
+        Outcome::End => tally,
+    }
+}
+
+fn is_end(outcome: Outcome) -> bool {
+    match outcome {
+        Outcome::Same => false,
+        Outcome::Differs => false,
+        Outcome::End => true,
+    }
+}
+
+fn print(tally: Tally) {
+    io::print_decimal(STDOUT_FILENO, tally.same);
     io::write_all(STDOUT_FILENO, b" answers the same, ");
-    io::print_decimal(STDOUT_FILENO, other);
+    io::print_decimal(STDOUT_FILENO, tally.other);
     io::write_all(STDOUT_FILENO, b" others\n");
 }
 
@@ -93,17 +120,16 @@ fn main() {
     let mut space = io::large_buffer();
     let mut due = io::large_buffer();
     let mut out = io::large_buffer();
-    let mut same: u64 = 0;
-    let mut other: u64 = 0;
+    let mut tally = Tally { same: 0, other: 0 };
     let mut left: usize = 4000;
     while 0 < left {
         let outcome = run_case(&mut space, &mut due, &mut out);
-        match outcome {
-            Outcome::Same => same += 1,
-            Outcome::Differs => other += 1,
-            Outcome::End => left = 1,
+        if is_end(outcome) {
+            print(tally);
+            return;
         }
+        tally = counted(tally, outcome);
         left -= 1;
     }
-    print(same, other);
+    print(tally);
 }
