@@ -3,12 +3,19 @@
 
   tools/oracle/target/oracle cases 5 400 > A; tools/oracle/target/oracle edgecases > B; tools/replay_cases.py A B
 
-Each line has a bundle and the answer due, in hexadecimal, '-' for no bytes. Bundles over 600 bytes are left out but for the first
-two of each file, and so are answers over 60,000 bytes. crates/replay/stdin has for each case the lengths of bundle and answer (2
-bytes each, low byte first) and both; crates/replay/stdout says that all are answered the same.
+Each line has a bundle and the report due, in hexadecimal, '-' for no bytes. Bundles over 600 bytes are left out but for the first
+two of each file, and so are reports over 60,000 bytes. For each bundle the renumbered bundle due is asked of `oracle renumber`
+too. Two cases are made here: 256 definitions in which each refers twice to the next, the last an array sized by a field, behind
+an array of the first; and the same with the names shifted.
+
+crates/replay/stdin has for each case 0 for a report or 1 for a renumbering, the lengths of bundle and answer (2 bytes each, low
+byte first) and both; crates/replay/stdout says that all are answered the same.
 """
 import os
+import subprocess
 import sys
+
+TOP = os.path.join(os.path.dirname(os.path.abspath(__file__)), '..')
 
 
 def load(path):
@@ -23,13 +30,37 @@ def load(path):
             yield bundle, answer
 
 
+def number(value, width=2):
+    return value.to_bytes(width, 'little')
+
+
+def shared(shift):
+    """Each definition twice in the one before; an array of the first varies in size with the last: type 5."""
+    plain = bytes(9)
+    kinds = [b'\x44' + plain + b'\0\x04\x03\x40' + number(2 + shift)]
+    for i in range(2, 256):
+        kinds.append(b'\x41' + plain + number(2) + (b'\x50' + number(7) + b'\x40' + number(i + 1 + shift)) * 2)
+    kinds.append(b'\x44' + plain + b'\0\x09' + number(9) + b'\x30')
+    bundle = b'\x60' + number(256) + number(0) + number(0)
+    bundle += b''.join(b'\x61' + number(i + 1 + shift) + kind for i, kind in enumerate(kinds))
+    name = number(1 + shift)
+    return bundle, b'\x70' + number(1) + b'\x75' + number(0) + name + bytes(9) + number(1) + b'\x7f' + name
+
+
+def renumbered(bundle):
+    oracle = os.path.join(TOP, 'tools', 'oracle', 'target', 'oracle')
+    return subprocess.run([oracle, 'renumber'], input=bundle, capture_output=True, check=True).stdout
+
+
 def main():
-    top = os.path.join(os.path.dirname(os.path.abspath(__file__)), '..', 'crates', 'replay')
-    cases = [case for path in sys.argv[1:] for case in load(path)]
-    with open(os.path.join(top, 'stdin'), 'wb') as out:
-        for bundle, answer in cases:
-            out.write(len(bundle).to_bytes(2, 'little') + len(answer).to_bytes(2, 'little') + bundle + answer)
-    with open(os.path.join(top, 'stdout'), 'w') as out:
+    reports = [case for path in sys.argv[1:] for case in load(path)] + [shared(0), shared(300)]
+    cases = [(0, bundle, answer) for bundle, answer in reports]
+    cases += [(1, bundle, renumbered(bundle)) for bundle, _ in reports]
+    folder = os.path.join(TOP, 'crates', 'replay')
+    with open(os.path.join(folder, 'stdin'), 'wb') as out:
+        for call, bundle, answer in cases:
+            out.write(number(call, 1) + number(len(bundle)) + number(len(answer)) + bundle + answer)
+    with open(os.path.join(folder, 'stdout'), 'w') as out:
         out.write(f'{len(cases)} answers the same, 0 others\n')
 
 

@@ -13,111 +13,111 @@ use Rattle.meaning.specs.Sizes.{isEnumWithConstantSizeVariants, within, 
 use Rattle.meaning.specs.Violations.{findLayoutDependencyChain, checkJaggedArrayConstraints, checkArrayElementTypeSize, validateArraySizeConstraints, violations}
 use Rattle.meaning.specs.Report.{report}
 
-abbrev plain : Attributes
+abbrev pub plain : Attributes
 plain = record { packed = 0; aligned = 0 }
 
-abbrev edge : ℕ → ℕ → Edge
+abbrev pub edge : ℕ → ℕ → Edge
 edge from to = record { from = from; to = to; kind = 0 }
 
 -- a bundle of edges alone
-abbrev edges : List Edge → Bundle
+abbrev pub edges : List Edge → Bundle
 edges es = record { current = 0; definitions = []; edges = es }
 
 -- a bundle of definition 1 alone
-abbrev one : Ty → Bundle
+abbrev pub one : Ty → Bundle
 one t = record { current = 0; definitions = record { name = 1; type = t } ∷ []; edges = [] }
 
 -- U8, I8; the literal 3; a reference to the field 2
-abbrev u8 : Ty
+abbrev pub u8 : Ty
 u8 = primitive 0x30
 
-abbrev i8 : Ty
+abbrev pub i8 : Ty
 i8 = primitive 0x34
 
-abbrev three : Expr
+abbrev pub three : Expr
 three = literal 0x04 3
 
-abbrev field : Expr
+abbrev pub field : Expr
 field = fieldRef (2 ∷ [])
 
 -- an enum with such a tag and variants of such types
-abbrev variants : List Ty → Members
+abbrev pub variants : List Ty → Members
 variants [] = Members.none
 variants (t ∷ ts) = more (member 7 0 t) (variants ts)
 
-abbrev tagged : Expr → List Ty → Ty
+abbrev pub tagged : Expr → List Ty → Ty
 tagged tag ts = enum plain tag (variants ts)
 
 -- an array of three arrays whose size is a field
-abbrev nested : Ty
+abbrev pub nested : Ty
 nested = array plain 0 three (array plain 0 field u8)
 
-abbrev jagged : Ty → Ty
+abbrev pub jagged : Ty → Ty
 jagged element = array plain 1 three element
 
 -- chain 5 to 5 without edges: 5
-chain-self : findLayoutDependencyChain (edges []) 5 5 ≡ some (5 ∷ [])
+pub chain-self : findLayoutDependencyChain (edges []) 5 5 ≡ some (5 ∷ [])
 unfolding findLayoutDependencyChain chainOf firstWalk walkOf firstOf onlyIf orElse
 chain-self = refl
 
 -- edges 1→2, 1→3, 3→4, 2→4, from 1 to 4: 1, 2, 4
-chain-first : findLayoutDependencyChain (edges (edge 1 2 ∷ edge 1 3 ∷ edge 3 4 ∷ edge 2 4 ∷ [])) 1 4 ≡ some (1 ∷ 2 ∷ 4 ∷ [])
+pub chain-first : findLayoutDependencyChain (edges (edge 1 2 ∷ edge 1 3 ∷ edge 3 4 ∷ edge 2 4 ∷ [])) 1 4 ≡ some (1 ∷ 2 ∷ 4 ∷ [])
 unfolding findLayoutDependencyChain chainOf firstWalk walkOf firstOf onlyIf orElse
 chain-first = refl
 
 -- the same with 1→3 first: 1, 3, 4
-chain-other : findLayoutDependencyChain (edges (edge 1 3 ∷ edge 1 2 ∷ edge 3 4 ∷ edge 2 4 ∷ [])) 1 4 ≡ some (1 ∷ 3 ∷ 4 ∷ [])
+pub chain-other : findLayoutDependencyChain (edges (edge 1 3 ∷ edge 1 2 ∷ edge 3 4 ∷ edge 2 4 ∷ [])) 1 4 ≡ some (1 ∷ 3 ∷ 4 ∷ [])
 unfolding findLayoutDependencyChain chainOf firstWalk walkOf firstOf onlyIf orElse
 chain-other = refl
 
 -- from 4 to 1: none
-chain-none : findLayoutDependencyChain (edges (edge 1 2 ∷ edge 1 3 ∷ edge 3 4 ∷ edge 2 4 ∷ [])) 4 1 ≡ none
+pub chain-none : findLayoutDependencyChain (edges (edge 1 2 ∷ edge 1 3 ∷ edge 3 4 ∷ edge 2 4 ∷ [])) 4 1 ≡ none
 unfolding findLayoutDependencyChain chainOf firstWalk walkOf firstOf onlyIf orElse
 chain-none = refl
 
 -- named enum without variants: dependent with a FieldRef tag, not with a literal
-enum-empty : namedSizeDepends (one (tagged field [])) (tagged field []) ≡ true
+pub enum-empty : namedSizeDepends (one (tagged field [])) (tagged field []) ≡ true
 unfolding namedSizeDepends
 enum-empty = refl
 
-enum-empty-literal : namedSizeDepends (one (tagged three [])) (tagged three []) ≡ false
+pub enum-empty-literal : namedSizeDepends (one (tagged three [])) (tagged three []) ≡ false
 unfolding namedSizeDepends
 enum-empty-literal = refl
 
 -- named enum of U8 and I8 with a FieldRef tag: not dependent; inline: dependent
-enum-named : namedSizeDepends (one (tagged field (u8 ∷ i8 ∷ []))) (tagged field (u8 ∷ i8 ∷ [])) ≡ false
+pub enum-named : namedSizeDepends (one (tagged field (u8 ∷ i8 ∷ []))) (tagged field (u8 ∷ i8 ∷ [])) ≡ false
 unfolding namedSizeDepends
 enum-named = refl
 
-enum-inline : inlineSizeDepends (one (tagged field (u8 ∷ i8 ∷ []))) (tagged field (u8 ∷ i8 ∷ [])) ≡ true
+pub enum-inline : inlineSizeDepends (one (tagged field (u8 ∷ i8 ∷ []))) (tagged field (u8 ∷ i8 ∷ [])) ≡ true
 unfolding inlineSizeDepends
 enum-inline = refl
 
 -- one U8 variant: constant-size test false
-enum-single : isEnumWithConstantSizeVariants (tagged field (u8 ∷ [])) ≡ false
+pub enum-single : isEnumWithConstantSizeVariants (tagged field (u8 ∷ [])) ≡ false
 enum-single = refl
 
 -- named three-element array of arrays sized by FieldRef: not dependent; inline: dependent
-array-named : namedSizeDepends (one nested) nested ≡ false
+pub array-named : namedSizeDepends (one nested) nested ≡ false
 unfolding namedSizeDepends
 array-named = refl
 
-array-inline : inlineSizeDepends (one nested) nested ≡ true
+pub array-inline : inlineSizeDepends (one nested) nested ≡ true
 unfolding inlineSizeDepends
 array-inline = refl
 
 -- jagged array of literal size over an unresolved TypeRef: no violation
-jagged-unresolved : violations (one (jagged (typeRef 9))) ≡ []
+pub jagged-unresolved : violations (one (jagged (typeRef 9))) ≡ []
 unfolding violations validateArraySizeConstraints checkArrayElementTypeSize checkJaggedArrayConstraints findType containsJaggedArray answer within
 jagged-unresolved = refl
 
 -- definition 1 as TypeRef 1: a circle
-circle-self : circles (one (typeRef 1)) ≡ true
+pub circle-self : circles (one (typeRef 1)) ≡ true
 unfolding circles settled leadsTo
 circle-self = refl
 
 -- the report of a jagged array of three U8
-jagged-report : report (one (jagged u8))
+pub jagged-report : report (one (jagged u8))
     ≡ 0x70 ∷ 0x01 ∷ 0x00 ∷ 0x77 ∷ 0x00 ∷ 0x00 ∷ 0x01 ∷ 0x00 ∷ 0x00 ∷ 0x00 ∷ 0x00 ∷ 0x00 ∷ 0x00 ∷ 0x00 ∷ 0x00 ∷ 0x00 ∷ 0x00
     ∷ 0x01 ∷ 0x00 ∷ 0x7F ∷ 0x01 ∷ 0x00 ∷ []
 unfolding report violations validateArraySizeConstraints checkArrayElementTypeSize checkJaggedArrayConstraints findType containsJaggedArray answer within

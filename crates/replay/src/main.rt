@@ -1,4 +1,4 @@
-// Replays stored cases: runs the report on each bundle and compares with the stored answer, made by the original Rust.
+// Replays stored cases: runs the report or the renumbering on each bundle and compares with the stored answer.
 use bundle::Answer;
 use libc::STDIN_FILENO;
 use libc::STDOUT_FILENO;
@@ -29,13 +29,9 @@ fn same_first(a: &[u8], b: &[u8], n: usize) -> bool {
     true
 }
 
-// Whether the answer due in the first m bytes is given for the bundle in the first n.
-fn answered(space: &[u8], n: usize, due: &[u8], m: usize, out: &mut [u8]) -> bool {
-    if space.len() < n {
-        return false;
-    }
-    let found = report::report(&space[..n], out);
-    match found {
+// Whether the answer is the one in the first m bytes: the result in the first places of `out`, or 7E and the refusal.
+fn is_due(answer: Answer, out: &[u8], due: &[u8], m: usize) -> bool {
+    match answer {
         Answer::Accepted(size) => {
             if size != m {
                 return false;
@@ -52,6 +48,24 @@ fn answered(space: &[u8], n: usize, due: &[u8], m: usize, out: &mut [u8]) -> boo
     }
 }
 
+// Whether the report of the bundle in the first n bytes is the answer in the first m of `due`.
+fn reported(space: &[u8], n: usize, due: &[u8], m: usize, out: &mut [u8]) -> bool {
+    if space.len() < n {
+        return false;
+    }
+    let answer = report::report(&space[..n], out);
+    is_due(answer, out, due, m)
+}
+
+// The same for the renumbered bundle.
+fn renumbered(space: &[u8], n: usize, due: &[u8], m: usize, out: &mut [u8]) -> bool {
+    if space.len() < n {
+        return false;
+    }
+    let answer = renumber::renumber(&space[..n], out);
+    is_due(answer, out, due, m)
+}
+
 fn wide(byte: u8) -> usize
     ensures { λ r. ⌜ r < 256 ⌝ }
 {
@@ -64,21 +78,29 @@ pub enum Outcome {
     End,
 }
 
-// One case: the lengths of its bundle and of its answer, two bytes each, and then both.
-fn run_case(space: &mut [u8], due: &mut [u8], out: &mut [u8]) -> Outcome {
-    let mut head = [0u8; 4];
-    if io::read_full(STDIN_FILENO, &mut head) < 4 {
-        return Outcome::End;
-    }
-    let n = wide(head[0]) + 256 * wide(head[1]);
-    let m = wide(head[2]) + 256 * wide(head[3]);
-    read_first(space, n);
-    read_first(due, m);
-    if answered(space, n, due, m, out) {
+// What came of a case.
+fn outcome_of(same: bool) -> Outcome {
+    if same {
         Outcome::Same
     } else {
         Outcome::Differs
     }
+}
+
+// One case: 0 for a report or 1 for a renumbering, the lengths of the bundle and of the answer, two bytes each, and then both.
+fn run_case(space: &mut [u8], due: &mut [u8], out: &mut [u8]) -> Outcome {
+    let mut head = [0u8; 5];
+    if io::read_full(STDIN_FILENO, &mut head) < 5 {
+        return Outcome::End;
+    }
+    let n = wide(head[1]) + 256 * wide(head[2]);
+    let m = wide(head[3]) + 256 * wide(head[4]);
+    read_first(space, n);
+    read_first(due, m);
+    if head[0] == 0 {
+        return outcome_of(reported(space, n, due, m, out));
+    }
+    outcome_of(renumbered(space, n, due, m, out))
 }
 
 // How many cases gave the answer due, and how many another one.
