@@ -1,5 +1,6 @@
 //! The library's answers against the oracle's, on limit cases and random bundles.
 
+use crate::exchange::exchanged;
 use layout::Refusal;
 use layout_oracle::bundle::{encode, Name};
 use layout_oracle::compare::{compare_answers, hex};
@@ -33,12 +34,13 @@ pub fn compare(seed: u64, count: usize) -> bool {
             0 => damage::damaged(&mut random),
             _ => encode(&generate::any(&mut random)),
         };
-        if let Err(call) = other_calls(&bytes, &mut random) {
+        let answers = other_calls(&bytes, &mut random).and_then(|_| exchanged(&bytes, &mut random));
+        if let Err(call) = answers {
             println!("{call} differs on {}", hex(&bytes));
             return false;
         }
     }
-    println!("no difference in report, accept, renumber and chain");
+    println!("no difference in report, accept, renumber and chain, with exchanged names too");
     true
 }
 

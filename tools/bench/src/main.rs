@@ -2,6 +2,7 @@
 //! their times. README.md says what is measured.
 
 mod compare;
+mod exchange;
 mod inputs;
 mod measure;
 
