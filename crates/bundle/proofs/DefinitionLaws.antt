@@ -80,13 +80,13 @@ dropped (suc i) (x ∷ xs) e = dropped i xs e
 
 -- the first i of the n definitions at `at` were read, and `places` has their types; the others start at `next`
 pub record Placing (s : List ℕ) (at n : ℕ) (places : List ℕ) (i next : ℕ) : Type 0 where
-  pub size : length places ≡ 256
+  pub size : 256 ≤ length places
   pub bound : i ≤ n
   pub step : stepOf (many _∷_ [] readDefinition (n - i) s next) ≡ stepOf (many _∷_ [] readDefinition n s at)
   pub rest : Reads (many _∷_ [] readDefinition n s at) → drop i (definitionsAt n s at) ≡ definitionsAt (n - i) s next
   pub each : Reads (many _∷_ [] readDefinition n s at) → (k : ℕ) → k < i → Placed s (getElem? (definitionsAt n s at) k) (getD places k 0)
 
-pub placing-start : (s : List ℕ) (at n : ℕ) (places : List ℕ) → length places ≡ 256 → Placing s at n places 0 at
+pub placing-start : (s : List ℕ) (at n : ℕ) (places : List ℕ) → 256 ≤ length places → Placing s at n places 0 at
 placing-start s at n places h =
     let p : n - 0 ≡ n = omega arith in
     record { size = h; bound = omega arith; step = rw p; rest = λ r. rw p; each = λ r k l. absurd (omega arith) }
@@ -108,7 +108,7 @@ module _ {s : List ℕ} {at n : ℕ} {places : List ℕ} {i next : ℕ} (g : Pla
         let p : n - i - 1 ≡ n - (i + 1) = omega arith in
         let j : i + 1 ≡ suc i = omega arith in
         record {
-          size = length-set places i (next + 3) ∙ g .size;
+          size = omega (arith, length-set places i (next + 3), g .size);
           bound = omega arith;
           step = rw (← p) (sym (many-more _∷_ [] readDefinition s (n - i) next m (omega arith) e) ∙ g .step);
           rest = λ r. rw (← p, j) (split r .1);

@@ -17,7 +17,7 @@ use Rattle.bundle.specs.Definitions.{bundleOf, typeAt, definitionAt, Pla
 use Rattle.bundle.proofs.TypeTrees.{type-there}
 
 -- the list from place i on
-from-place : {A : Type 0} (xs : List A) (i : ℕ) {x : A} → getElem? xs i ≡ some x → drop i xs ≡ x ∷ drop (suc i) xs
+pub from-place : {A : Type 0} (xs : List A) (i : ℕ) {x : A} → getElem? xs i ≡ some x → drop i xs ≡ x ∷ drop (suc i) xs
 from-place [] zero e = let z : _≡_ {A = ℕ} 0 1 = cc in absurd (omega arith)
 from-place [] (suc i) e = let z : _≡_ {A = ℕ} 0 1 = cc in absurd (omega arith)
 from-place (y ∷ xs) zero e = ap (λ x. x ∷ xs) (let p : y ≡ _ = cc in p)

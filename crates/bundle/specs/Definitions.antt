@@ -7,6 +7,7 @@ use lib.ListN.{length, getD, getElem?}
 use Rattle.bundle.specs.declared.Step.{Step}
 use Rattle.meaning.specs.Tree.{Ty, primitive, Members, none, Definition, Edge, Bundle}
 use Rattle.meaning.specs.Limits.{definitionLimit, depthLimit}
+use Rattle.meaning.specs.Lookup.{definitionOf}
 use Rattle.meaning.specs.Reader.{many, little}
 use Rattle.meaning.specs.ReadType.{readTy, readMembers, Group}
 use Rattle.meaning.specs.ReadBundle.{readDefinition, readEdge, readBundle}
@@ -56,10 +57,13 @@ pub record DefinitionsAt (s : List ℕ) (at n : ℕ) (places : List ℕ) (r : St
   pub step : r ≡ stepOf (many _∷_ [] readDefinition n s at)
   pub placed : Reads (many _∷_ [] readDefinition n s at) → Places s (definitionsAt n s at) places
 
--- `places` has the n definitions of the bundle
+-- `places` has the n definitions of the bundle. Behind them it has, for each name for which there is a place, the number of the first
+-- definition of that name; what stands there for a name without definition is free
 pub record Table (s : List ℕ) (n : ℕ) (places : List ℕ) : Type 0 where
   pub count : n ≡ length (bundleOf s .definitions)
   pub placed : Places s (bundleOf s .definitions) places
+  pub size : definitionLimit ≤ length places
+  pub first : (x : ℕ) → definitionLimit + x < length places → definitionOf (bundleOf s) x < n → getD places (definitionLimit + x) 0 ≡ definitionOf (bundleOf s) x
 
 -- the edge whose record starts at p
 unfoldable pub edgeAt : List ℕ → ℕ → Edge

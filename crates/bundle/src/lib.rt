@@ -14,7 +14,7 @@ ghost use Rattle.meaning.specs.Circle.{circles};
 ghost use Rattle.meaning.specs.Calls.{acceptance, answerOf};
 ghost use Rattle.bundle.specs.View.{formMeant, stepOf, countOf, countsOf};
 ghost use Rattle.bundle.specs.declared.Counts.the-variants.{Each};
-ghost use Rattle.bundle.specs.Definitions.{bundleOf, DefinitionsAt, Table};
+ghost use Rattle.bundle.specs.Definitions.{bundleOf, DefinitionsAt, Places, Table};
 ghost use Rattle.bundle.specs.Circles.{Marks, Decided, TypeToWalk, TypeWalked, MembersToWalk, MembersWalked, GroupToWalk, GroupWalked};
 ghost use Rattle.bundle.specs.Opened.{IsRead, IsOpened, answerMeant};
 
@@ -395,8 +395,8 @@ pub fn header_at(s: &[u8]) -> Counts
 }
 
 // The end of the `count` definitions at `at`. `places` gets the position of each one's type.
-fn definitions_at(s: &[u8], at: usize, count: usize, places: &mut [u16; 256]) -> Step
-    requires { ⌜ (length (now s) ≤ 32768) × (count ≤ 256) × (length (now places) ≡ 256) ⌝ }
+fn definitions_at(s: &[u8], at: usize, count: usize, places: &mut [u16]) -> Step
+    requires { ⌜ (length (now s) ≤ 32768) × (count ≤ 256) × (256 ≤ length (now places)) ⌝ }
     ensures { λ r. ⌜ DefinitionsAt (now (s .entry)) at count (now (places .exit)) r ⌝ }
 {
     let mut next = at;
@@ -451,15 +451,26 @@ fn edges_end(s: &[u8], at: usize, count: usize) -> Step
     }
 }
 
+// Notes behind the 256 positions, for each name for which there is a place, the number of its first definition: the last one first.
+fn note_names(s: &[u8], count: usize, places: &mut [u16])
+    requires { ⌜ (count ≡ length (bundleOf (now s) .definitions)) × Places (now s) (bundleOf (now s) .definitions) (now places) × (256 ≤ length (now places)) ⌝ }
+    ensures { λ _. ⌜ Table (now (s .entry)) count (now (places .exit)) ⌝ }
+{
+    let mut i = count;
+    while 0 < i {
+        i -= 1;
+        let at = places[i] as usize;
+        let name = u16_at(s, at - 2);
+        let place = 256 + (name as usize);
+        if place < places.len() {
+            places[place] = i as u16;
+        }
+    }
+}
+
 // The layout of the bundle that the bytes are, whose header has these counts and ends at `at`, or the number of the first fault.
-fn rest_at(
-    s: &[u8],
-    at: usize,
-    definitions: usize,
-    edges: usize,
-    places: &mut [u16; 256],
-) -> Opening
-    requires { ⌜ (length (now s) ≤ 32768) × (length (now places) ≡ 256) × (Each definitions edges at ≡ countsOf (readHeader (now s) 0)) ⌝ }
+fn rest_at(s: &[u8], at: usize, definitions: usize, edges: usize, places: &mut [u16]) -> Opening
+    requires { ⌜ (length (now s) ≤ 32768) × (256 ≤ length (now places)) × (Each definitions edges at ≡ countsOf (readHeader (now s) 0)) ⌝ }
     ensures { λ r. ⌜ IsRead (now (s .entry)) (now (places .exit)) r ⌝ }
 {
     let step = definitions_at(s, at, definitions, places);
@@ -467,12 +478,15 @@ fn rest_at(
         Step::Next(next) => {
             let end = edges_end(s, next, edges);
             match end {
-                Step::Next(_) => Opening::Opened(Layout {
-                    definitions: definitions,
-                    edges: edges,
-                    edges_at: next,
-                    current: u16_at(s, 5),
-                }),
+                Step::Next(_) => {
+                    note_names(s, definitions, places);
+                    Opening::Opened(Layout {
+                        definitions: definitions,
+                        edges: edges,
+                        edges_at: next,
+                        current: u16_at(s, 5),
+                    })
+                }
                 Step::Refused(k) => Opening::Refused(k),
             }
         }
@@ -481,8 +495,8 @@ fn rest_at(
 }
 
 // The layout of the bundle that the bytes are, or the number of their first fault; circles are not looked for.
-fn bundle_at(s: &[u8], places: &mut [u16; 256]) -> Opening
-    requires { ⌜ length (now places) ≡ 256 ⌝ }
+fn bundle_at(s: &[u8], places: &mut [u16]) -> Opening
+    requires { ⌜ 256 ≤ length (now places) ⌝ }
     ensures { λ r. ⌜ IsRead (now (s .entry)) (now (places .exit)) r ⌝ }
 {
     if 32768 < s.len() {
@@ -495,8 +509,8 @@ fn bundle_at(s: &[u8], places: &mut [u16; 256]) -> Opening
     }
 }
 
-// The number of the first definition of a name, and the count of definitions where there is none.
-pub fn definition_of(s: &[u8], places: &[u16; 256], count: usize, name: u16) -> usize
+// The number of the first definition of a name, and the count of definitions where there is none, by looking at each.
+fn scan_definitions(s: &[u8], places: &[u16], count: usize, name: u16) -> usize
     requires { ⌜ Table (now s) count (now places) ⌝ }
     ensures { λ r. ⌜ r ≡ definitionOf (bundleOf (now (s .entry))) name ⌝ }
 {
@@ -511,15 +525,27 @@ pub fn definition_of(s: &[u8], places: &[u16; 256], count: usize, name: u16) -> 
     i
 }
 
+// The same. Where `places` is long enough for the name, one look is enough: what is noted for a name without definition leads to
+// one of another name, or to none.
+pub fn definition_of(s: &[u8], places: &[u16], count: usize, name: u16) -> usize
+    requires { ⌜ Table (now s) count (now places) ⌝ }
+    ensures { λ r. ⌜ r ≡ definitionOf (bundleOf (now (s .entry))) name ⌝ }
+{
+    let place = 256 + (name as usize);
+    if places.len() <= place {
+        return scan_definitions(s, places, count, name);
+    }
+    let i = places[place] as usize;
+    if count <= i {
+        return count;
+    }
+    let at = places[i] as usize;
+    if u16_at(s, at - 2) == name { i } else { count }
+}
+
 // Whether every sequence of TypeRefs from definition `i` ends. `marks` has 0 for a definition that is not walked, 1 for one on the
 // way to this one, 2 for one that is walked.
-fn walk_definition(
-    s: &[u8],
-    places: &[u16; 256],
-    count: usize,
-    marks: &mut [u8; 256],
-    i: usize,
-) -> bool
+fn walk_definition(s: &[u8], places: &[u16], count: usize, marks: &mut [u8; 256], i: usize) -> bool
     requires { ⌜ Table (now s) count (now places) × (i < count) × Marks (bundleOf (now s)) (i ∷ []) (now marks) ⌝ }
     ensures { λ r. ⌜ Decided (bundleOf (now (s .entry))) (i ∷ []) (now (marks .entry)) (now (marks .exit)) r ⌝ }
 {
@@ -543,7 +569,7 @@ fn walk_definition(
 }
 
 // The same for the definition of the name at `at`, if there is one: the end of the name, or 8.
-fn walk_name(s: &[u8], places: &[u16; 256], count: usize, marks: &mut [u8; 256], at: usize) -> Step
+fn walk_name(s: &[u8], places: &[u16], count: usize, marks: &mut [u8; 256], at: usize) -> Step
     requires { ⌜ (at + 2 ≤ length (now s)) × Table (now s) count (now places) × TypeToWalk (now s) (ok (typeRef (little (now s) at 2)) (at + 2)) (now marks) ⌝ }
     ensures { λ r. ⌜ TypeWalked (now (s .entry)) (ok (typeRef (little (now (s .entry)) at 2)) (at + 2)) (now (marks .entry)) (now (marks .exit)) r ⌝ }
 {
@@ -562,7 +588,7 @@ fn walk_name(s: &[u8], places: &[u16; 256], count: usize, marks: &mut [u8; 256],
 // The same for all names inside the type that was read at `at`: the end of the type, or 8.
 fn walk_type(
     s: &[u8],
-    places: &[u16; 256],
+    places: &[u16],
     count: usize,
     marks: &mut [u8; 256],
     at: usize,
@@ -591,7 +617,7 @@ fn walk_type(
 // The same for the struct or union whose body is at `at` and whose members are of kind `kind`.
 fn walk_group(
     s: &[u8],
-    places: &[u16; 256],
+    places: &[u16],
     count: usize,
     marks: &mut [u8; 256],
     at: usize,
@@ -611,7 +637,7 @@ fn walk_group(
 // The same for the enum whose body is at `at`.
 fn walk_enum(
     s: &[u8],
-    places: &[u16; 256],
+    places: &[u16],
     count: usize,
     marks: &mut [u8; 256],
     at: usize,
@@ -636,7 +662,7 @@ fn walk_enum(
 // The same for the array whose body is at `at`.
 fn walk_array(
     s: &[u8],
-    places: &[u16; 256],
+    places: &[u16],
     count: usize,
     marks: &mut [u8; 256],
     at: usize,
@@ -661,7 +687,7 @@ fn walk_array(
 // The same for the n members of kind `kind` at `at`.
 fn walk_members(
     s: &[u8],
-    places: &[u16; 256],
+    places: &[u16],
     count: usize,
     marks: &mut [u8; 256],
     at: usize,
@@ -690,7 +716,7 @@ fn walk_members(
 }
 
 // Whether some definition leads back to itself.
-fn circle(s: &[u8], places: &[u16; 256], count: usize) -> bool
+fn circle(s: &[u8], places: &[u16], count: usize) -> bool
     requires { ⌜ Table (now s) count (now places) ⌝ }
     ensures { λ r. ⌜ r ≡ circles (bundleOf (now (s .entry))) ⌝ }
 {
@@ -706,12 +732,12 @@ fn circle(s: &[u8], places: &[u16; 256], count: usize) -> bool
     false
 }
 
-// The layout of the bundle that the bytes are, and in `places` the position of each definition's type; or the number for which the
-// bytes are refused.
-pub fn open(bundle: &[u8], places: &mut [u16; 256]) -> Opening
+// The layout of the bundle that the bytes are, and in `places` the position of each definition's type and the first definition of
+// each name; or the number for which the bytes are refused. What `places` holds before is free.
+pub fn open(bundle: &[u8], places: &mut [u16]) -> Opening
+    requires { ⌜ 256 ≤ length (now places) ⌝ }
     ensures { λ r. ⌜ IsOpened (now (bundle .entry)) (now (places .exit)) r ⌝ }
 {
-    *places = [0u16; 256];
     let opening = bundle_at(bundle, places);
     match opening {
         Opening::Opened(layout) => {
@@ -725,14 +751,27 @@ pub fn open(bundle: &[u8], places: &mut [u16; 256]) -> Opening
     }
 }
 
-// Whether the bytes are accepted: a result of no length, or the number for which they are refused.
-pub fn accept(bundle: &[u8]) -> Answer
+// Whether the bytes are accepted, with a lent list of places.
+fn accept_with(bundle: &[u8], places: &mut [u16]) -> Answer
+    requires { ⌜ 256 ≤ length (now places) ⌝ }
     ensures { λ r. ⌜ answerMeant r ≡ answerOf (acceptance (now (bundle .entry))) 0 ⌝ }
 {
-    let mut places = [0u16; 256];
-    let opening = open(bundle, &mut places);
+    let opening = open(bundle, places);
     match opening {
         Opening::Opened(_) => Answer::Accepted(0),
         Opening::Refused(k) => Answer::Refused(k),
     }
+}
+
+// Whether the bytes are accepted: a result of no length, or the number for which they are refused. A short bundle is not worth the
+// clearing of a place for each name.
+pub fn accept(bundle: &[u8]) -> Answer
+    ensures { λ r. ⌜ answerMeant r ≡ answerOf (acceptance (now (bundle .entry))) 0 ⌝ }
+{
+    if bundle.len() <= 1024 {
+        let mut places = [0u16; 256];
+        return accept_with(bundle, &mut places);
+    }
+    let mut places = [0u16; 65792];
+    accept_with(bundle, &mut places)
 }

@@ -91,7 +91,7 @@ fn field_part(s: &[u8], path: usize) -> Part
 // Type 1, for an enum in the struct `container` that the reference at `path` leads into.
 fn check_enum_forward_reference_in_same_struct(
     s: &[u8],
-    places: &[u16; 256],
+    places: &[u16],
     count: usize,
     name: u16,
     container: u16,
@@ -117,7 +117,7 @@ fn check_enum_forward_reference_in_same_struct(
 }
 
 // Whether the size of the first definition of the name depends on field references.
-fn size_depends(s: &[u8], places: &[u16; 256], count: usize, known: &[u8; 256], name: u16) -> bool
+fn size_depends(s: &[u8], places: &[u16], count: usize, known: &[u8; 256], name: u16) -> bool
     requires { ⌜ Table (now s) count (now places) × Known (now s) count (now known) ⌝ }
     ensures { λ r. ⌜ r ≡ holds (namedSizeDepends (bundleOf (now (s .entry)))) (findType (bundleOf (now (s .entry))) name) ⌝ }
 {
@@ -131,7 +131,7 @@ fn size_depends(s: &[u8], places: &[u16; 256], count: usize, known: &[u8; 256], 
 // Types 1 and 2, for the reference at `path` of an enum's tag.
 pub fn check_enum_tag_layout_cycle(
     s: &[u8],
-    places: &[u16; 256],
+    places: &[u16],
     layout: Layout,
     known: &[u8; 256],
     name: u16,
@@ -206,7 +206,7 @@ pub fn reference_at(s: &[u8], at: usize, end: usize) -> Reference
 // field behind index `j` of the struct, and the definition needs it.
 fn check_forward_reference(
     s: &[u8],
-    places: &[u16; 256],
+    places: &[u16],
     layout: Layout,
     name: u16,
     j: usize,
@@ -241,7 +241,7 @@ fn check_forward_reference(
 // The first such reference from `from` to `end`, in the definition at `at`.
 fn find_forward_reference(
     s: &[u8],
-    places: &[u16; 256],
+    places: &[u16],
     layout: Layout,
     name: u16,
     j: usize,
@@ -271,7 +271,7 @@ fn find_forward_reference(
 // The first such reference in the whole definition at `at`.
 fn find_forward(
     s: &[u8],
-    places: &[u16; 256],
+    places: &[u16],
     layout: Layout,
     name: u16,
     j: usize,
@@ -302,7 +302,7 @@ fn find_forward(
 // type, a TypeRef, leads.
 pub fn check_field_layout_dependency(
     s: &[u8],
-    places: &[u16; 256],
+    places: &[u16],
     layout: Layout,
     known: &[u8; 256],
     name: u16,
@@ -336,7 +336,7 @@ pub fn check_field_layout_dependency(
 }
 
 // Whether the first definition of the name is there and is no struct.
-fn is_no_struct(s: &[u8], places: &[u16; 256], count: usize, name: u16) -> bool
+fn is_no_struct(s: &[u8], places: &[u16], count: usize, name: u16) -> bool
     requires { ⌜ Table (now s) count (now places) ⌝ }
     ensures { λ r. ⌜ r ≡ holds (λ t. not (isStruct t)) (findType (bundleOf (now (s .entry))) name) ⌝ }
 {
@@ -354,7 +354,7 @@ fn is_no_struct(s: &[u8], places: &[u16; 256], count: usize, name: u16) -> bool
 // Types 6 and 7, for the element at `at` of a jagged array.
 fn check_jagged_element_kind(
     s: &[u8],
-    places: &[u16; 256],
+    places: &[u16],
     count: usize,
     name: u16,
     at: usize,
@@ -391,7 +391,7 @@ fn check_jagged_element_kind(
 // Types 6 to 8, for the element at `at` of a jagged array. `nested` has the jagged test's answers.
 fn check_jagged_array_constraints(
     s: &[u8],
-    places: &[u16; 256],
+    places: &[u16],
     count: usize,
     nested: &mut [u8; 256],
     name: u16,
@@ -417,7 +417,7 @@ fn check_jagged_array_constraints(
 // the jagged test's.
 pub fn check_array_element_type_size(
     s: &[u8],
-    places: &[u16; 256],
+    places: &[u16],
     count: usize,
     kept: &mut [u8; 256],
     nested: &mut [u8; 256],

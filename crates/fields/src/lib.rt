@@ -179,7 +179,7 @@ pub fn last_field(
 }
 
 // The name of definition i, and where its type starts.
-pub fn place_of(s: &[u8], places: &[u16; 256], count: usize, i: usize) -> Place
+pub fn place_of(s: &[u8], places: &[u16], count: usize, i: usize) -> Place
     requires { ⌜ Table (now s) count (now places) × (i < count) ⌝ }
     ensures { λ r. ⌜ PlacedAt (now (s .entry)) (now (places .entry)) i r ⌝ }
 {
@@ -208,7 +208,7 @@ fn contains(s: &[u8], place: Place, name: u16, container: u16) -> bool
 // Whether some definition of the name `container`, not only the first, is a struct with a field that is a TypeRef to the enum.
 pub fn is_enum_referencing_same_container_struct(
     s: &[u8],
-    places: &[u16; 256],
+    places: &[u16],
     count: usize,
     name: u16,
     container: u16,
@@ -234,7 +234,7 @@ pub enum Definition {
 }
 
 // The first definition of the name.
-pub fn find_definition(s: &[u8], places: &[u16; 256], count: usize, name: u16) -> Definition
+pub fn find_definition(s: &[u8], places: &[u16], count: usize, name: u16) -> Definition
     requires { ⌜ Table (now s) count (now places) ⌝ }
     ensures { λ r. ⌜ Defines (now (s .entry)) count name r ⌝ }
 {
@@ -253,7 +253,7 @@ pub enum Fields {
 }
 
 // The fields of the first definition of the name, if that is a struct.
-fn struct_of(s: &[u8], places: &[u16; 256], count: usize, name: u16) -> Fields
+fn struct_of(s: &[u8], places: &[u16], count: usize, name: u16) -> Fields
     requires { ⌜ Table (now s) count (now places) ⌝ }
     ensures { λ r. ⌜ FieldsOf (now (s .entry)) name r ⌝ }
 {
@@ -272,7 +272,7 @@ fn struct_of(s: &[u8], places: &[u16; 256], count: usize, name: u16) -> Fields
 // called `field`.
 pub fn stands_before(
     s: &[u8],
-    places: &[u16; 256],
+    places: &[u16],
     count: usize,
     name: u16,
     container: u16,
@@ -296,7 +296,7 @@ pub fn stands_before(
 // Whether in the first struct of the name `container` the first field that is called `field` stands after the index `j`.
 pub fn stands_after(
     s: &[u8],
-    places: &[u16; 256],
+    places: &[u16],
     count: usize,
     container: u16,
     field: u16,
@@ -317,7 +317,7 @@ pub fn stands_after(
 }
 
 // Whether the first definition of the name is an enum of two variants or more, all primitives of one size.
-pub fn has_constant_size_variants(s: &[u8], places: &[u16; 256], count: usize, name: u16) -> bool
+pub fn has_constant_size_variants(s: &[u8], places: &[u16], count: usize, name: u16) -> bool
     requires { ⌜ Table (now s) count (now places) ⌝ }
     ensures { λ r. ⌜ r ≡ holds isEnumWithConstantSizeVariants (findType (bundleOf (now (s .entry))) name) ⌝ }
 {

@@ -27,13 +27,7 @@ fn mark_of(depends: bool) -> u8
 }
 
 // Notes for each definition whether its size depends on field references.
-fn note_sizes(
-    s: &[u8],
-    places: &[u16; 256],
-    count: usize,
-    kept: &mut [u8; 256],
-    known: &mut [u8; 256],
-)
+fn note_sizes(s: &[u8], places: &[u16], count: usize, kept: &mut [u8; 256], known: &mut [u8; 256])
     requires { ⌜ Table (now s) count (now places) × Acyclic (now s) × Kept (now s) false (now kept) × (length (now known) ≡ definitionLimit) ⌝ }
     ensures { λ _. ⌜ Known (now (s .entry)) count (now (known .exit)) × Kept (now (s .entry)) false (now (kept .exit)) ⌝ }
 {
@@ -48,7 +42,7 @@ fn note_sizes(
 // Writes the report, if there is room for all of it. A first run counts and writes nowhere, so that a refusal leaves the places as they are.
 fn write_report(
     s: &[u8],
-    places: &[u16; 256],
+    places: &[u16],
     layout: Layout,
     known: &[u8; 256],
     kept: &mut [u8; 256],
@@ -94,7 +88,7 @@ fn write_report(
 }
 
 // The report of an opened bundle.
-fn report_opened(s: &[u8], places: &[u16; 256], layout: Layout, out: &mut [u8]) -> Answer
+fn report_opened(s: &[u8], places: &[u16], layout: Layout, out: &mut [u8]) -> Answer
     requires { ⌜ LayoutOf (now s) layout (now places) × (circles (bundleOf (now s)) ≡ false) ⌝ }
     ensures { λ r. ⌜ Call (result (report (bundleOf (now (s .entry))))) (now (out .entry)) (now (out .exit)) (answerMeant r) ⌝ }
 {

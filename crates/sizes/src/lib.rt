@@ -403,7 +403,7 @@ fn mark_of(holds: bool) -> u8
 // inside another. `kept` has 0 for a definition whose answer is not known yet, 1 for no and 2 for yes.
 fn named_type_test(
     s: &[u8],
-    places: &[u16; 256],
+    places: &[u16],
     count: usize,
     kept: &mut [u8; 256],
     jagged: bool,
@@ -439,7 +439,7 @@ fn is_holds(tested: Tested) -> bool
 // The named-type test of the type that was read at `at` as a definition's.
 fn definition_test(
     s: &[u8],
-    places: &[u16; 256],
+    places: &[u16],
     count: usize,
     kept: &mut [u8; 256],
     jagged: bool,
@@ -481,7 +481,7 @@ fn definition_test(
 // of one size.
 fn enum_definition_test(
     s: &[u8],
-    places: &[u16; 256],
+    places: &[u16],
     count: usize,
     kept: &mut [u8; 256],
     jagged: bool,
@@ -512,7 +512,7 @@ fn enum_definition_test(
 // The inline-type test of the type that was read at `at`.
 fn inline_type_test(
     s: &[u8],
-    places: &[u16; 256],
+    places: &[u16],
     count: usize,
     kept: &mut [u8; 256],
     jagged: bool,
@@ -548,7 +548,7 @@ fn inline_type_test(
 // The same for the TypeRef whose name is at `at`: the named-type test of its definition.
 fn reference_test(
     s: &[u8],
-    places: &[u16; 256],
+    places: &[u16],
     count: usize,
     kept: &mut [u8; 256],
     jagged: bool,
@@ -573,7 +573,7 @@ fn reference_test(
 // The same for the struct or union whose body is at `at` and whose members are of kind `kind`.
 fn group_test(
     s: &[u8],
-    places: &[u16; 256],
+    places: &[u16],
     count: usize,
     kept: &mut [u8; 256],
     jagged: bool,
@@ -629,7 +629,7 @@ fn array_counts(s: &[u8], jagged: bool, at: usize, size: usize, depth: usize) ->
 // The same for the enum whose body is at `at`: in the size test a tag that is not constant is enough.
 fn enum_test(
     s: &[u8],
-    places: &[u16; 256],
+    places: &[u16],
     count: usize,
     kept: &mut [u8; 256],
     jagged: bool,
@@ -657,7 +657,7 @@ fn enum_test(
 // The same for the array whose body is at `at`.
 fn array_test(
     s: &[u8],
-    places: &[u16; 256],
+    places: &[u16],
     count: usize,
     kept: &mut [u8; 256],
     jagged: bool,
@@ -685,7 +685,7 @@ fn array_test(
 // The same for the n members of kind `kind` at `at`.
 fn members_test(
     s: &[u8],
-    places: &[u16; 256],
+    places: &[u16],
     count: usize,
     kept: &mut [u8; 256],
     jagged: bool,
@@ -718,7 +718,7 @@ fn members_test(
 // Whether the size of definition `i` depends on field references. `kept` has the size test's answers.
 pub fn type_size_depends_on_field_refs(
     s: &[u8],
-    places: &[u16; 256],
+    places: &[u16],
     count: usize,
     kept: &mut [u8; 256],
     i: usize,
@@ -732,7 +732,7 @@ pub fn type_size_depends_on_field_refs(
 // Whether a jagged array is in definition `i` or in what it leads to. `kept` has the jagged test's answers.
 pub fn definition_contains_jagged_array(
     s: &[u8],
-    places: &[u16; 256],
+    places: &[u16],
     count: usize,
     kept: &mut [u8; 256],
     i: usize,
@@ -746,7 +746,7 @@ pub fn definition_contains_jagged_array(
 // Whether the size of the type that was read at `at`, written inline, depends on field references.
 pub fn type_size_depends_on_field_refs_recursive(
     s: &[u8],
-    places: &[u16; 256],
+    places: &[u16],
     count: usize,
     kept: &mut [u8; 256],
     at: usize,
@@ -761,7 +761,7 @@ pub fn type_size_depends_on_field_refs_recursive(
 // Whether a jagged array is in the type that was read at `at` or in what it leads to.
 pub fn type_contains_jagged_array(
     s: &[u8],
-    places: &[u16; 256],
+    places: &[u16],
     count: usize,
     kept: &mut [u8; 256],
     at: usize,

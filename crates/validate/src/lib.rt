@@ -140,7 +140,7 @@ fn put_check(
 // The check of one reference of an enum's tag, or of an array's size where `tag` is not set.
 fn check_reference(
     s: &[u8],
-    places: &[u16; 256],
+    places: &[u16],
     layout: Layout,
     known: &[u8; 256],
     name: u16,
@@ -161,7 +161,7 @@ fn check_reference(
 // Checks each reference from `at` to `end`, and writes what is found.
 fn validate_references(
     s: &[u8],
-    places: &[u16; 256],
+    places: &[u16],
     layout: Layout,
     known: &[u8; 256],
     subject: Subject,
@@ -196,7 +196,7 @@ fn validate_references(
 // Writes the violations of an enum: for each reference of its tag.
 fn validate_enum_tag_constraints(
     s: &[u8],
-    places: &[u16; 256],
+    places: &[u16],
     layout: Layout,
     known: &[u8; 256],
     subject: Subject,
@@ -231,7 +231,7 @@ fn validate_enum_tag_constraints(
 // Writes the violations of an array: for its element, then for each reference of its size.
 fn validate_array_size_constraints(
     s: &[u8],
-    places: &[u16; 256],
+    places: &[u16],
     layout: Layout,
     known: &[u8; 256],
     kept: &mut [u8; 256],
@@ -286,7 +286,7 @@ fn validate_array_size_constraints(
 // Writes the violations of a struct: at most one for each of its `count` fields.
 fn validate_struct_field_constraints(
     s: &[u8],
-    places: &[u16; 256],
+    places: &[u16],
     layout: Layout,
     known: &[u8; 256],
     subject: Subject,
@@ -326,7 +326,7 @@ fn validate_struct_field_constraints(
 // Writes the violations of definition `i`: an enum, array or struct goes to its validator, other kinds to none.
 fn validate_type(
     s: &[u8],
-    places: &[u16; 256],
+    places: &[u16],
     layout: Layout,
     known: &[u8; 256],
     kept: &mut [u8; 256],
@@ -391,7 +391,7 @@ fn validate_type(
 // Writes the violations of all definitions, in order.
 pub fn validate_layout_constraints(
     s: &[u8],
-    places: &[u16; 256],
+    places: &[u16],
     layout: Layout,
     known: &[u8; 256],
     kept: &mut [u8; 256],

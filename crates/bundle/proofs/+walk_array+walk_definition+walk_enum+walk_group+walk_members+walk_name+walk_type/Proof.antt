@@ -204,7 +204,7 @@ walk-array-enum-known-size : Ask-walk-array walk-array-lts.Need-enum-known-size
 walk-array-enum-known-size t c = search needs
 
 walk-array-walk-type-requires : Ask-walk-array walk-array-lts.Need-walk-type-requires
-walk-array-walk-type-requires t c κs = (omega (arith, c .before .before .before .before .before .before .before .before .before .before .pre .0), (c .before .before .before .before .before .before .before .before .before .before .pre .1 .1, (element-reads _ _ _ _ _ (sym (c .before .before .before .before .before .before .head .given .1) ∙ c .before .before .before .before .before .before .before .before .array-head-at .ensures) (c .before .before .before .before .before .before .before .before .before .before .pre .1 .2 .0) _ (sym (c .before .before .size .given .1) ∙ c .before .before .before .before .expr-at .ensures), marks-same (array-leads _ _ _ _ _ _ (c .before .before .before .before .before .before .before .before .before .before .pre .1 .2 .0) (sym (c .before .before .before .before .before .before .head .given .1) ∙ c .before .before .before .before .before .before .before .before .array-head-at .ensures) (sym (c .before .before .size .given .1) ∙ c .before .before .before .before .expr-at .ensures)) (c .before .before .before .before .before .before .before .before .before .before .pre .1 .2 .1))))
+walk-array-walk-type-requires t c κs = (omega (arith, c .before .before .before .before .before .before .before .before .before .before .before .pre .0), (c .before .before .before .before .before .before .before .before .before .before .before .pre .1 .1, (element-reads _ _ _ _ _ (sym (c .before .before .before .before .before .before .head .given .1) ∙ c .before .before .before .before .before .before .before .before .array-head-at .ensures) (c .before .before .before .before .before .before .before .before .before .before .before .pre .1 .2 .0) _ (sym (c .before .before .size .given .1) ∙ c .before .before .before .before .expr-at .ensures), marks-same (array-leads _ _ _ _ _ _ (c .before .before .before .before .before .before .before .before .before .before .before .pre .1 .2 .0) (sym (c .before .before .before .before .before .before .head .given .1) ∙ c .before .before .before .before .before .before .before .before .array-head-at .ensures) (sym (c .before .before .size .given .1) ∙ c .before .before .before .before .expr-at .ensures)) (c .before .before .before .before .before .before .before .before .before .before .before .pre .1 .2 .1))))
 
 walk-array-enum-told : Ask-walk-array walk-array-lts.Need-enum-told
 walk-array-enum-told t c = search needs
@@ -213,49 +213,49 @@ walk-array-enum-told-2 : Ask-walk-array walk-array-lts.Need-enum-told-2
 walk-array-enum-told-2 t c = search needs
 
 walk-array-returns : Ask-walk-array walk-array-lts.Need-returns
-walk-array-returns t c = walked-same _ _ (array-leads _ _ _ _ _ _ (c .before .before .before .before .before .before .before .before .before .before .before .pre .1 .2 .0) (sym (c .before .before .before .before .before .before .before .head .given .1) ∙ c .before .before .before .before .before .before .before .before .before .array-head-at .ensures) (sym (c .before .before .before .size .given .1) ∙ c .before .before .before .before .before .expr-at .ensures)) (array-element _ _ _ _ _ _ (sym (c .before .before .before .before .before .before .before .head .given .1) ∙ c .before .before .before .before .before .before .before .before .before .array-head-at .ensures) (sym (c .before .before .before .size .given .1) ∙ c .before .before .before .before .before .expr-at .ensures)) (c .walk-type .ensures)
+walk-array-returns t c = walked-same _ _ (array-leads _ _ _ _ _ _ (c .before .before .before .before .before .before .before .before .before .before .before .before .pre .1 .2 .0) (sym (c .before .before .before .before .before .before .before .head .given .1) ∙ c .before .before .before .before .before .before .before .before .before .array-head-at .ensures) (sym (c .before .before .before .size .given .1) ∙ c .before .before .before .before .before .expr-at .ensures)) (array-element _ _ _ _ _ _ (sym (c .before .before .before .before .before .before .before .head .given .1) ∙ c .before .before .before .before .before .before .before .before .before .array-head-at .ensures) (sym (c .before .before .before .size .given .1) ∙ c .before .before .before .before .before .expr-at .ensures)) (c .walk-type .ensures)
 
 walk-array-returns-2 : Ask-walk-array walk-array-lts.Need-returns-2
-walk-array-returns-2 t c = absurd (size-no _ _ _ (c .before .before .before .before .before .before .before .before .pre .1 .2 .0) _ _ (sym (c .before .before .before .before .head .given .1) ∙ c .before .before .before .before .before .before .array-head-at .ensures) (sym (c .enum-told .given .1) ∙ c .before .before .expr-at .ensures))
+walk-array-returns-2 t c = absurd (size-no _ _ _ (c .before .before .before .before .before .before .before .before .before .pre .1 .2 .0) _ _ (sym (c .before .before .before .before .head .given .1) ∙ c .before .before .before .before .before .before .array-head-at .ensures) (sym (c .enum-told .given .1) ∙ c .before .before .expr-at .ensures))
 
 walk-array-returns-3 : Ask-walk-array walk-array-lts.Need-returns-3
-walk-array-returns-3 t c = absurd (array-no _ _ _ (c .before .before .before .before .pre .1 .2 .0) _ (sym (c .enum-told2 .given .1) ∙ c .before .before .array-head-at .ensures))
+walk-array-returns-3 t c = absurd (array-no _ _ _ (c .before .before .before .before .before .pre .1 .2 .0) _ (sym (c .enum-told2 .given .1) ∙ c .before .before .array-head-at .ensures))
 
 walk-definition-element-copy-out-mark : Ask-walk-definition walk-definition-lts.Need-element-copy-out-mark
-walk-definition-element-copy-out-mark t c = place-below (c .before .pre .1 .0) (c .before .pre .1 .1) (c .before .pre .1 .2)
+walk-definition-element-copy-out-mark t c = place-below (c .before .before .pre .1 .0) (c .before .before .pre .1 .1) (c .before .before .pre .1 .2)
 
 walk-definition-returns : Ask-walk-definition walk-definition-lts.Need-returns
-walk-definition-returns t c = one-walked (c .before .before .before .pre .1 .2) (c .if1 .taken)
+walk-definition-returns t c = one-walked (c .before .before .before .before .pre .1 .2) (c .if1 .taken)
 
 walk-definition-returns-2 : Ask-walk-definition walk-definition-lts.Need-returns-2
-walk-definition-returns-2 t c = one-way (c .before .before .before .before .pre .1 .2) (c .if2 .taken)
+walk-definition-returns-2 t c = one-way (c .before .before .before .before .before .pre .1 .2) (c .if2 .taken)
 
 walk-definition-element-write-marks : Ask-walk-definition walk-definition-lts.Need-element-write-marks
-walk-definition-element-write-marks t c = place-below (c .before .before .before .before .pre .1 .0) (c .before .before .before .before .pre .1 .1) (c .before .before .before .before .pre .1 .2)
+walk-definition-element-write-marks t c = place-below (c .before .before .before .before .before .pre .1 .0) (c .before .before .before .before .before .pre .1 .1) (c .before .before .before .before .before .pre .1 .2)
 
 walk-definition-mul-at : Ask-walk-definition walk-definition-lts.Need-mul-at
-walk-definition-mul-at t c = omega (arith, place-below (c .before .before .before .before .pre .1 .0) (c .before .before .before .before .pre .1 .1) (c .before .before .before .before .pre .1 .2))
+walk-definition-mul-at t c = omega (arith, place-below (c .before .before .before .before .before .pre .1 .0) (c .before .before .before .before .before .pre .1 .1) (c .before .before .before .before .before .pre .1 .2))
 
-walk-definition-element-copy-out-at : Ask-walk-definition walk-definition-lts.Need-element-copy-out-at
-walk-definition-element-copy-out-at t c = place-below (c .before .before .before .before .pre .1 .0) (c .before .before .before .before .pre .1 .1) (c .before .before .before .before .pre .1 .2)
+walk-definition-shared-slice-read-at : Ask-walk-definition walk-definition-lts.Need-shared-slice-read-at
+walk-definition-shared-slice-read-at t c = omega (arith, place-below (c .before .before .before .before .before .before .pre .1 .0) (c .before .before .before .before .before .before .pre .1 .1) (c .before .before .before .before .before .before .pre .1 .2), c .before .before .before .before .before .before .pre .1 .0 .size)
 
 walk-definition-cast-at : Ask-walk-definition walk-definition-lts.Need-cast-at
-walk-definition-cast-at t c = record { fits = omega (arith, place-there (c .before .before .before .before .before .pre .1 .0) _ (c .before .before .before .before .before .pre .1 .1)) }
+walk-definition-cast-at t c = record { fits = omega (arith, place-there (c .before .before .before .before .before .before .pre .1 .0) _ (c .before .before .before .before .before .before .pre .1 .1)) }
 
 walk-definition-walk-type-requires : Ask-walk-definition walk-definition-lts.Need-walk-type-requires
-walk-definition-walk-type-requires t c κs = (omega (arith, c .before .before .before .before .before .before .pre .0, place-less (c .before .before .before .before .before .before .pre .1 .0) (c .before .before .before .before .before .before .pre .1 .1) (c .before .before .before .before .before .before .pre .1 .2) (omega arith)), (c .before .before .before .before .before .before .pre .1 .0, (placed-at (c .before .before .before .before .before .before .pre .1 .0) _ (c .before .before .before .before .before .before .pre .1 .1) .reads, walk-starts (c .before .before .before .before .before .before .pre .1 .0) (c .before .before .before .before .before .before .pre .1 .1) (c .before .before .before .before .before .before .pre .1 .2))))
+walk-definition-walk-type-requires t c κs = (omega (arith, c .before .before .before .before .before .before .before .pre .0, place-less (c .before .before .before .before .before .before .before .pre .1 .0) (c .before .before .before .before .before .before .before .pre .1 .1) (c .before .before .before .before .before .before .before .pre .1 .2) (omega arith)), (c .before .before .before .before .before .before .before .pre .1 .0, (placed-at (c .before .before .before .before .before .before .before .pre .1 .0) _ (c .before .before .before .before .before .before .before .pre .1 .1) .reads, walk-starts (c .before .before .before .before .before .before .before .pre .1 .0) (c .before .before .before .before .before .before .before .pre .1 .1) (c .before .before .before .before .before .before .before .pre .1 .2))))
 
 walk-definition-enum-told : Ask-walk-definition walk-definition-lts.Need-enum-told
 walk-definition-enum-told t c = search needs
 
 walk-definition-element-write-marks-2 : Ask-walk-definition walk-definition-lts.Need-element-write-marks-2
-walk-definition-element-write-marks-2 t c = place-below (c .before .before .before .before .before .before .before .before .before .pre .1 .0) (c .before .before .before .before .before .before .before .before .before .pre .1 .1) (c .before .before .before .before .before .before .before .before .before .pre .1 .2)
+walk-definition-element-write-marks-2 t c = place-below (c .before .before .before .before .before .before .before .before .before .before .pre .1 .0) (c .before .before .before .before .before .before .before .before .before .before .pre .1 .1) (c .before .before .before .before .before .before .before .before .before .before .pre .1 .2)
 
 walk-definition-enum-told-2 : Ask-walk-definition walk-definition-lts.Need-enum-told-2
 walk-definition-enum-told-2 t c = search needs
 
 walk-definition-returns-3 : Ask-walk-definition walk-definition-lts.Need-returns-3
-walk-definition-returns-3 t c = walk-ends (c .before .before .before .before .before .before .before .before .before .pre .1 .0) (c .before .before .before .before .before .before .before .before .before .pre .1 .1) (c .before .before .before .before .before .before .before .before .before .pre .1 .2) (walked-next (c .before .before .walk-type .ensures) (c .enum-told .given .1) .1)
+walk-definition-returns-3 t c = walk-ends (c .before .before .before .before .before .before .before .before .before .before .pre .1 .0) (c .before .before .before .before .before .before .before .before .before .before .pre .1 .1) (c .before .before .before .before .before .before .before .before .before .before .pre .1 .2) (walked-next (c .before .before .walk-type .ensures) (c .enum-told .given .1) .1)
 
 walk-definition-returns-4 : Ask-walk-definition walk-definition-lts.Need-returns-4
 walk-definition-returns-4 t c = walked-false (c .before .before .walk-type .ensures) (c .enum-told2 .given .1)
@@ -273,7 +273,7 @@ walk-enum-enum-known-tag : Ask-walk-enum walk-enum-lts.Need-enum-known-tag
 walk-enum-enum-known-tag t c = search needs
 
 walk-enum-walk-members-requires : Ask-walk-enum walk-enum-lts.Need-walk-members-requires
-walk-enum-walk-members-requires t c κs = (omega (arith, c .before .before .before .before .before .before .before .before .before .before .pre .0), (c .before .before .before .before .before .before .before .before .before .before .pre .1 .1, (variants-read _ _ _ _ _ _ (sym (c .before .before .before .before .before .before .head .given .1) ∙ c .before .before .before .before .before .before .before .before .count-at .ensures) (c .before .before .before .before .before .before .before .before .before .before .pre .1 .2 .0) _ (sym (c .before .before .tag .given .1) ∙ c .before .before .before .before .expr-at .ensures), marks-same (enum-leads _ _ _ _ _ _ _ (sym (c .before .before .before .before .before .before .head .given .1) ∙ c .before .before .before .before .before .before .before .before .count-at .ensures) (c .before .before .before .before .before .before .before .before .before .before .pre .1 .2 .0) (sym (c .before .before .tag .given .1) ∙ c .before .before .before .before .expr-at .ensures)) (c .before .before .before .before .before .before .before .before .before .before .pre .1 .2 .1))))
+walk-enum-walk-members-requires t c κs = (omega (arith, c .before .before .before .before .before .before .before .before .before .before .before .pre .0), (c .before .before .before .before .before .before .before .before .before .before .before .pre .1 .1, (variants-read _ _ _ _ _ _ (sym (c .before .before .before .before .before .before .head .given .1) ∙ c .before .before .before .before .before .before .before .before .count-at .ensures) (c .before .before .before .before .before .before .before .before .before .before .before .pre .1 .2 .0) _ (sym (c .before .before .tag .given .1) ∙ c .before .before .before .before .expr-at .ensures), marks-same (enum-leads _ _ _ _ _ _ _ (sym (c .before .before .before .before .before .before .head .given .1) ∙ c .before .before .before .before .before .before .before .before .count-at .ensures) (c .before .before .before .before .before .before .before .before .before .before .before .pre .1 .2 .0) (sym (c .before .before .tag .given .1) ∙ c .before .before .before .before .expr-at .ensures)) (c .before .before .before .before .before .before .before .before .before .before .before .pre .1 .2 .1))))
 
 walk-enum-enum-told : Ask-walk-enum walk-enum-lts.Need-enum-told
 walk-enum-enum-told t c = search needs
@@ -282,13 +282,13 @@ walk-enum-enum-told-2 : Ask-walk-enum walk-enum-lts.Need-enum-told-2
 walk-enum-enum-told-2 t c = search needs
 
 walk-enum-returns : Ask-walk-enum walk-enum-lts.Need-returns
-walk-enum-returns t c = walked-same _ _ (enum-leads _ _ _ _ _ _ _ (sym (c .before .before .before .before .before .before .before .head .given .1) ∙ c .before .before .before .before .before .before .before .before .before .count-at .ensures) (c .before .before .before .before .before .before .before .before .before .before .before .pre .1 .2 .0) (sym (c .before .before .before .tag .given .1) ∙ c .before .before .before .before .before .expr-at .ensures)) (enum-members _ _ _ _ _ _ _ (sym (c .before .before .before .before .before .before .before .head .given .1) ∙ c .before .before .before .before .before .before .before .before .before .count-at .ensures) (sym (c .before .before .before .tag .given .1) ∙ c .before .before .before .before .before .expr-at .ensures)) (c .walk-members .ensures)
+walk-enum-returns t c = walked-same _ _ (enum-leads _ _ _ _ _ _ _ (sym (c .before .before .before .before .before .before .before .head .given .1) ∙ c .before .before .before .before .before .before .before .before .before .count-at .ensures) (c .before .before .before .before .before .before .before .before .before .before .before .before .pre .1 .2 .0) (sym (c .before .before .before .tag .given .1) ∙ c .before .before .before .before .before .expr-at .ensures)) (enum-members _ _ _ _ _ _ _ (sym (c .before .before .before .before .before .before .before .head .given .1) ∙ c .before .before .before .before .before .before .before .before .before .count-at .ensures) (sym (c .before .before .before .tag .given .1) ∙ c .before .before .before .before .before .expr-at .ensures)) (c .walk-members .ensures)
 
 walk-enum-returns-2 : Ask-walk-enum walk-enum-lts.Need-returns-2
-walk-enum-returns-2 t c = absurd (tag-no _ _ _ (c .before .before .before .before .before .before .before .before .pre .1 .2 .0) _ _ _ (sym (c .before .before .before .before .head .given .1) ∙ c .before .before .before .before .before .before .count-at .ensures) (sym (c .enum-told .given .1) ∙ c .before .before .expr-at .ensures))
+walk-enum-returns-2 t c = absurd (tag-no _ _ _ (c .before .before .before .before .before .before .before .before .before .pre .1 .2 .0) _ _ _ (sym (c .before .before .before .before .head .given .1) ∙ c .before .before .before .before .before .before .count-at .ensures) (sym (c .enum-told .given .1) ∙ c .before .before .expr-at .ensures))
 
 walk-enum-returns-3 : Ask-walk-enum walk-enum-lts.Need-returns-3
-walk-enum-returns-3 t c = absurd (enum-no _ _ _ (c .before .before .before .before .pre .1 .2 .0) _ (sym (c .enum-told2 .given .1) ∙ c .before .before .count-at .ensures))
+walk-enum-returns-3 t c = absurd (enum-no _ _ _ (c .before .before .before .before .before .pre .1 .2 .0) _ (sym (c .enum-told2 .given .1) ∙ c .before .before .count-at .ensures))
 
 walk-group-count-at-requires : Ask-walk-group walk-group-lts.Need-count-at-requires
 walk-group-count-at-requires t c κs = search needs
@@ -297,16 +297,16 @@ walk-group-enum-known-head : Ask-walk-group walk-group-lts.Need-enum-known-head
 walk-group-enum-known-head t c = search needs
 
 walk-group-walk-members-requires : Ask-walk-group walk-group-lts.Need-walk-members-requires
-walk-group-walk-members-requires t c κs = (omega (arith, c .before .before .before .before .before .before .pre .0), (c .before .before .before .before .before .before .pre .1 .1, (group-reads _ _ _ _ _ _ (sym (c .before .before .head .given .1) ∙ c .before .before .before .before .count-at .ensures) (c .before .before .before .before .before .before .pre .1 .2 .0), marks-same (ap (membersLead _) (group-value _ _ _ _ _ _ (sym (c .before .before .head .given .1) ∙ c .before .before .before .before .count-at .ensures) (c .before .before .before .before .before .before .pre .1 .2 .0) zeroGroup)) (c .before .before .before .before .before .before .pre .1 .2 .1))))
+walk-group-walk-members-requires t c κs = (omega (arith, c .before .before .before .before .before .before .before .pre .0), (c .before .before .before .before .before .before .before .pre .1 .1, (group-reads _ _ _ _ _ _ (sym (c .before .before .head .given .1) ∙ c .before .before .before .before .count-at .ensures) (c .before .before .before .before .before .before .before .pre .1 .2 .0), marks-same (ap (membersLead _) (group-value _ _ _ _ _ _ (sym (c .before .before .head .given .1) ∙ c .before .before .before .before .count-at .ensures) (c .before .before .before .before .before .before .before .pre .1 .2 .0) zeroGroup)) (c .before .before .before .before .before .before .before .pre .1 .2 .1))))
 
 walk-group-enum-told : Ask-walk-group walk-group-lts.Need-enum-told
 walk-group-enum-told t c = search needs
 
 walk-group-returns : Ask-walk-group walk-group-lts.Need-returns
-walk-group-returns t c = walked-same _ _ (ap (membersLead _) (group-value _ _ _ _ _ _ (sym (c .before .before .before .head .given .1) ∙ c .before .before .before .before .before .count-at .ensures) (c .before .before .before .before .before .before .before .pre .1 .2 .0) zeroGroup)) (group-ends (readExpr 0) _ _ _ _ _ _ (sym (c .before .before .before .head .given .1) ∙ c .before .before .before .before .before .count-at .ensures)) (c .walk-members .ensures)
+walk-group-returns t c = walked-same _ _ (ap (membersLead _) (group-value _ _ _ _ _ _ (sym (c .before .before .before .head .given .1) ∙ c .before .before .before .before .before .count-at .ensures) (c .before .before .before .before .before .before .before .before .pre .1 .2 .0) zeroGroup)) (group-ends (readExpr 0) _ _ _ _ _ _ (sym (c .before .before .before .head .given .1) ∙ c .before .before .before .before .before .count-at .ensures)) (c .walk-members .ensures)
 
 walk-group-returns-2 : Ask-walk-group walk-group-lts.Need-returns-2
-walk-group-returns-2 t c = absurd (group-no _ _ _ _ _ (c .before .before .before .before .pre .1 .2 .0) (sym (c .enum-told .given .1) ∙ c .before .before .count-at .ensures))
+walk-group-returns-2 t c = absurd (group-no _ _ _ _ _ (c .before .before .before .before .before .pre .1 .2 .0) (sym (c .enum-told .given .1) ∙ c .before .before .count-at .ensures))
 
 abbrev walk-members-Inv-loop : walk-members-lts.InvT-loop
 walk-members-Inv-loop s places count marks₀ at depth kind n next₀ left₀ marks next left = Walking (bundleOf s) depth kind s n at marks₀ marks left next
@@ -319,7 +319,7 @@ abbrev Ask-walk-members : (walk-members-lts.Claims → In 3 walk-members-kinds.p
 Ask-walk-members N = (t : ℕ) → N (calls-walk-members t) (walk-members-at t) walk-members.Post walk-members-Inv-loop walk-members-μ-loop
 
 walk-members-loop-holds : Ask-walk-members walk-members-lts.Need-loop-holds
-walk-members-loop-holds t c = walking-start _ _ _ _ _ _ _ (c .before .pre .1 .1 .0) (c .before .pre .1 .1 .1)
+walk-members-loop-holds t c = walking-start _ _ _ _ _ _ _ (c .before .before .pre .1 .1 .0) (c .before .before .pre .1 .1 .1)
 
 walk-members-member-head-at-requires : Ask-walk-members walk-members-lts.Need-member-head-at-requires
 walk-members-member-head-at-requires t c κs = search needs
@@ -334,7 +334,7 @@ walk-members-returns : Ask-walk-members walk-members-lts.Need-returns
 walk-members-returns t c = absurd (head-no _ _ _ _ _ (c .before .before .before .loop-test .taken) (c .before .before .before .before .loop .inv .reads) _ (sym (c .enum-told .given .1) ∙ c .before .before .member-head-at .ensures))
 
 walk-members-walk-type-requires : Ask-walk-members walk-members-lts.Need-walk-type-requires
-walk-members-walk-type-requires t c κs = (omega (arith, c .before .before .before .before .before .before .before .before .pre .0, c .before .before .before .before .before .before .loop .inv .fewer), (c .before .before .before .before .before .before .before .before .pre .1 .0, (member-type-reads _ _ _ _ _ (c .before .before .before .before .before .loop-test .taken) (c .before .before .before .before .before .before .loop .inv .reads) _ (sym (c .before .before .head .given .1) ∙ c .before .before .before .before .member-head-at .ensures), walking-inside (c .before .before .before .before .before .before .loop .inv) (c .before .before .before .before .before .loop-test .taken) _ (sym (c .before .before .head .given .1) ∙ c .before .before .before .before .member-head-at .ensures))))
+walk-members-walk-type-requires t c κs = (omega (arith, c .before .before .before .before .before .before .before .before .before .pre .0, c .before .before .before .before .before .before .loop .inv .fewer), (c .before .before .before .before .before .before .before .before .before .pre .1 .0, (member-type-reads _ _ _ _ _ (c .before .before .before .before .before .loop-test .taken) (c .before .before .before .before .before .before .loop .inv .reads) _ (sym (c .before .before .head .given .1) ∙ c .before .before .before .before .member-head-at .ensures), walking-inside (c .before .before .before .before .before .before .loop .inv) (c .before .before .before .before .before .loop-test .taken) _ (sym (c .before .before .head .given .1) ∙ c .before .before .before .before .member-head-at .ensures))))
 
 walk-members-enum-known-step : Ask-walk-members walk-members-lts.Need-enum-known-step
 walk-members-enum-known-step t c = search needs
@@ -358,37 +358,37 @@ walk-members-returns-3 : Ask-walk-members walk-members-lts.Need-returns-3
 walk-members-returns-3 t c = walking-end (c .before .loop .inv) (omega arith)
 
 walk-name-u16-at-requires : Ask-walk-name walk-name-lts.Need-u16-at-requires
-walk-name-u16-at-requires t c κs = c .before .pre .1 .0
+walk-name-u16-at-requires t c κs = c .before .before .pre .1 .0
 
 walk-name-definition-of-requires : Ask-walk-name walk-name-lts.Need-definition-of-requires
-walk-name-definition-of-requires t c κs = c .before .before .pre .1 .1
+walk-name-definition-of-requires t c κs = c .before .before .before .pre .1 .1
 
 walk-name-add-t9 : Ask-walk-name walk-name-lts.Need-add-t9
-walk-name-add-t9 t c = omega (arith, c .before .before .before .before .pre .1 .0)
+walk-name-add-t9 t c = omega (arith, c .before .before .before .before .before .pre .1 .0)
 
 walk-name-returns : Ask-walk-name walk-name-lts.Need-returns
-walk-name-returns t c = name-none (c .before .before .before .before .pre .1 .1) _ (c .before .before .u16-at .ensures) (c .before .definition-of .ensures) (c .if1 .taken) (c .before .before .before .before .pre .1 .2 .1)
+walk-name-returns t c = name-none (c .before .before .before .before .before .pre .1 .1) _ (c .before .before .u16-at .ensures) (c .before .definition-of .ensures) (c .if1 .taken) (c .before .before .before .before .before .pre .1 .2 .1)
 
 walk-name-walk-definition-requires : Ask-walk-name walk-name-lts.Need-walk-definition-requires
-walk-name-walk-definition-requires t c κs = (omega (arith, c .before .before .before .before .before .pre .0), (c .before .before .before .before .before .pre .1 .1, c .before .if1 .left, name-marks (c .before .before .before .before .before .pre .1 .1) _ (c .before .before .before .u16-at .ensures) (c .before .before .definition-of .ensures) (c .before .if1 .left) (c .before .before .before .before .before .pre .1 .2 .1)))
+walk-name-walk-definition-requires t c κs = (omega (arith, c .before .before .before .before .before .before .pre .0), (c .before .before .before .before .before .before .pre .1 .1, c .before .if1 .left, name-marks (c .before .before .before .before .before .before .pre .1 .1) _ (c .before .before .before .u16-at .ensures) (c .before .before .definition-of .ensures) (c .before .if1 .left) (c .before .before .before .before .before .before .pre .1 .2 .1)))
 
 walk-name-add-t13 : Ask-walk-name walk-name-lts.Need-add-t13
-walk-name-add-t13 t c = omega (arith, c .before .before .before .before .before .before .before .pre .1 .0)
+walk-name-add-t13 t c = omega (arith, c .before .before .before .before .before .before .before .before .pre .1 .0)
 
 walk-name-returns-2 : Ask-walk-name walk-name-lts.Need-returns-2
-walk-name-returns-2 t c = name-walked (c .before .before .before .before .before .before .before .pre .1 .1) _ (c .before .before .before .before .before .u16-at .ensures) (c .before .before .before .before .definition-of .ensures) (c .before .before .before .if1 .left) (decided-true (c .before .walk-definition .ensures) (c .if2 .taken))
+walk-name-returns-2 t c = name-walked (c .before .before .before .before .before .before .before .before .pre .1 .1) _ (c .before .before .before .before .before .u16-at .ensures) (c .before .before .before .before .definition-of .ensures) (c .before .before .before .if1 .left) (decided-true (c .before .walk-definition .ensures) (c .if2 .taken))
 
 walk-name-returns-3 : Ask-walk-name walk-name-lts.Need-returns-3
 walk-name-returns-3 t c = circled (decided-loop (c .before .walk-definition .ensures) (c .if2 .left) .1)
 
 -- the kind byte has been read
-opened : (t : ℕ) (c : walk-type-lts.After-form-of (calls-walk-type t) (walk-type-at t) walk-type.Post) → (let a = c .before .before .before .args in Opened (a .depth) (a .at) (now (a .s)) (formMeant (c .form-of .result)))
+opened : (t : ℕ) (c : walk-type-lts.After-form-of (calls-walk-type t) (walk-type-at t) walk-type.Post) → (let a = c .before .before .before .before .args in Opened (a .depth) (a .at) (now (a .s)) (formMeant (c .form-of .result)))
 opened t c =
-    let r = c .before .before .before .pre .1 .1 .0 in
+    let r = c .before .before .before .before .pre .1 .1 .0 in
     record { deep = type-deep _ _ _ r; there = type-there _ _ _ r; form = c .form-of .ensures }
 
 walk-type-shared-slice-read-kind : Ask-walk-type walk-type-lts.Need-shared-slice-read-kind
-walk-type-shared-slice-read-kind t c = type-there _ _ _ (c .before .before .pre .1 .1 .0)
+walk-type-shared-slice-read-kind t c = type-there _ _ _ (c .before .before .before .pre .1 .1 .0)
 
 walk-type-form-of-requires : Ask-walk-type walk-type-lts.Need-form-of-requires
 walk-type-form-of-requires t c κs = search needs
@@ -397,10 +397,10 @@ walk-type-enum-known-form : Ask-walk-type walk-type-lts.Need-enum-known-form
 walk-type-enum-known-form t c = search needs
 
 walk-type-returns : Ask-walk-type walk-type-lts.Need-returns
-walk-type-returns t c = absurd (no-other (opened t (c .before)) (c .before .before .before .before .pre .1 .1 .0) (not-type _ (c .match .keys2)))
+walk-type-returns t c = absurd (no-other (opened t (c .before)) (c .before .before .before .before .before .pre .1 .1 .0) (not-type _ (c .match .keys2)))
 
 walk-type-add-body : Ask-walk-type walk-type-lts.Need-add-body
-walk-type-add-body t c = omega (arith, type-there _ _ _ (c .before .before .before .before .before .before .pre .1 .1 .0))
+walk-type-add-body t c = omega (arith, type-there _ _ _ (c .before .before .before .before .before .before .before .pre .1 .1 .0))
 
 walk-type-enum-told : Ask-walk-type walk-type-lts.Need-enum-told
 walk-type-enum-told t c = search needs
@@ -409,73 +409,73 @@ walk-type-enum-told-2 : Ask-walk-type walk-type-lts.Need-enum-told-2
 walk-type-enum-told-2 t c = search needs
 
 walk-type-walk-name-requires : Ask-walk-type walk-type-lts.Need-walk-name-requires
-walk-type-walk-name-requires t c κs = (omega (arith, type-deep _ _ _ (c .before .before .before .before .before .before .before .before .before .pre .1 .1 .0), c .before .before .before .before .before .before .before .before .before .pre .0), (typeRef-there (opened t (c .before .before .before .before .before .before)) (c .before .before .before .before .before .before .before .before .before .pre .1 .1 .0) (typeRef-meant (cc)), c .before .before .before .before .before .before .before .before .before .pre .1 .0, (tt, marks-same (typeRef-leads _ (opened t (c .before .before .before .before .before .before)) (c .before .before .before .before .before .before .before .before .before .pre .1 .1 .0) (typeRef-meant (cc))) (c .before .before .before .before .before .before .before .before .before .pre .1 .1 .1))))
+walk-type-walk-name-requires t c κs = (omega (arith, type-deep _ _ _ (c .before .before .before .before .before .before .before .before .before .before .pre .1 .1 .0), c .before .before .before .before .before .before .before .before .before .before .pre .0), (typeRef-there (opened t (c .before .before .before .before .before .before)) (c .before .before .before .before .before .before .before .before .before .before .pre .1 .1 .0) (typeRef-meant (cc)), c .before .before .before .before .before .before .before .before .before .before .pre .1 .0, (tt, marks-same (typeRef-leads _ (opened t (c .before .before .before .before .before .before)) (c .before .before .before .before .before .before .before .before .before .before .pre .1 .1 .0) (typeRef-meant (cc))) (c .before .before .before .before .before .before .before .before .before .before .pre .1 .1 .1))))
 
 walk-type-enum-told-3 : Ask-walk-type walk-type-lts.Need-enum-told-3
 walk-type-enum-told-3 t c = search needs
 
 walk-type-sub-walk-group : Ask-walk-type walk-type-lts.Need-sub-walk-group
-walk-type-sub-walk-group t c = omega (arith, type-deep _ _ _ (c .before .before .before .before .before .before .before .before .before .pre .1 .1 .0), c .before .before .before .before .before .before .before .before .before .pre .0)
+walk-type-sub-walk-group t c = omega (arith, type-deep _ _ _ (c .before .before .before .before .before .before .before .before .before .before .pre .1 .1 .0), c .before .before .before .before .before .before .before .before .before .before .pre .0)
 
 walk-type-walk-group-requires : Ask-walk-type walk-type-lts.Need-walk-group-requires
-walk-type-walk-group-requires t c κs = (omega (arith, type-deep _ _ _ (c .before .before .before .before .before .before .before .before .before .pre .1 .1 .0), c .before .before .before .before .before .before .before .before .before .pre .0), (omega (arith, type-there _ _ _ (c .before .before .before .before .before .before .before .before .before .pre .1 .1 .0)), c .before .before .before .before .before .before .before .before .before .pre .1 .0, (struct-reads (opened t (c .before .before .before .before .before .before)) (c .before .before .before .before .before .before .before .before .before .pre .1 .1 .0) (struct-meant (cc)), marks-same (struct-leads _ (opened t (c .before .before .before .before .before .before)) (c .before .before .before .before .before .before .before .before .before .pre .1 .1 .0) (struct-meant (cc))) (c .before .before .before .before .before .before .before .before .before .pre .1 .1 .1))))
+walk-type-walk-group-requires t c κs = (omega (arith, type-deep _ _ _ (c .before .before .before .before .before .before .before .before .before .before .pre .1 .1 .0), c .before .before .before .before .before .before .before .before .before .before .pre .0), (omega (arith, type-there _ _ _ (c .before .before .before .before .before .before .before .before .before .before .pre .1 .1 .0)), c .before .before .before .before .before .before .before .before .before .before .pre .1 .0, (struct-reads (opened t (c .before .before .before .before .before .before)) (c .before .before .before .before .before .before .before .before .before .before .pre .1 .1 .0) (struct-meant (cc)), marks-same (struct-leads _ (opened t (c .before .before .before .before .before .before)) (c .before .before .before .before .before .before .before .before .before .before .pre .1 .1 .0) (struct-meant (cc))) (c .before .before .before .before .before .before .before .before .before .before .pre .1 .1 .1))))
 
 walk-type-enum-told-4 : Ask-walk-type walk-type-lts.Need-enum-told-4
 walk-type-enum-told-4 t c = search needs
 
 walk-type-sub-walk-group-2 : Ask-walk-type walk-type-lts.Need-sub-walk-group-2
-walk-type-sub-walk-group-2 t c = omega (arith, type-deep _ _ _ (c .before .before .before .before .before .before .before .before .before .pre .1 .1 .0), c .before .before .before .before .before .before .before .before .before .pre .0)
+walk-type-sub-walk-group-2 t c = omega (arith, type-deep _ _ _ (c .before .before .before .before .before .before .before .before .before .before .pre .1 .1 .0), c .before .before .before .before .before .before .before .before .before .before .pre .0)
 
 walk-type-walk-group-requires-2 : Ask-walk-type walk-type-lts.Need-walk-group-requires-2
-walk-type-walk-group-requires-2 t c κs = (omega (arith, type-deep _ _ _ (c .before .before .before .before .before .before .before .before .before .pre .1 .1 .0), c .before .before .before .before .before .before .before .before .before .pre .0), (omega (arith, type-there _ _ _ (c .before .before .before .before .before .before .before .before .before .pre .1 .1 .0)), c .before .before .before .before .before .before .before .before .before .pre .1 .0, (union-reads (opened t (c .before .before .before .before .before .before)) (c .before .before .before .before .before .before .before .before .before .pre .1 .1 .0) (union-meant (cc)), marks-same (union-leads _ (opened t (c .before .before .before .before .before .before)) (c .before .before .before .before .before .before .before .before .before .pre .1 .1 .0) (union-meant (cc))) (c .before .before .before .before .before .before .before .before .before .pre .1 .1 .1))))
+walk-type-walk-group-requires-2 t c κs = (omega (arith, type-deep _ _ _ (c .before .before .before .before .before .before .before .before .before .before .pre .1 .1 .0), c .before .before .before .before .before .before .before .before .before .before .pre .0), (omega (arith, type-there _ _ _ (c .before .before .before .before .before .before .before .before .before .before .pre .1 .1 .0)), c .before .before .before .before .before .before .before .before .before .before .pre .1 .0, (union-reads (opened t (c .before .before .before .before .before .before)) (c .before .before .before .before .before .before .before .before .before .before .pre .1 .1 .0) (union-meant (cc)), marks-same (union-leads _ (opened t (c .before .before .before .before .before .before)) (c .before .before .before .before .before .before .before .before .before .before .pre .1 .1 .0) (union-meant (cc))) (c .before .before .before .before .before .before .before .before .before .before .pre .1 .1 .1))))
 
 walk-type-enum-told-5 : Ask-walk-type walk-type-lts.Need-enum-told-5
 walk-type-enum-told-5 t c = search needs
 
 walk-type-sub-walk-enum : Ask-walk-type walk-type-lts.Need-sub-walk-enum
-walk-type-sub-walk-enum t c = omega (arith, type-deep _ _ _ (c .before .before .before .before .before .before .before .before .before .pre .1 .1 .0), c .before .before .before .before .before .before .before .before .before .pre .0)
+walk-type-sub-walk-enum t c = omega (arith, type-deep _ _ _ (c .before .before .before .before .before .before .before .before .before .before .pre .1 .1 .0), c .before .before .before .before .before .before .before .before .before .before .pre .0)
 
 walk-type-walk-enum-requires : Ask-walk-type walk-type-lts.Need-walk-enum-requires
-walk-type-walk-enum-requires t c κs = (omega (arith, type-deep _ _ _ (c .before .before .before .before .before .before .before .before .before .pre .1 .1 .0), c .before .before .before .before .before .before .before .before .before .pre .0), (omega (arith, type-there _ _ _ (c .before .before .before .before .before .before .before .before .before .pre .1 .1 .0)), c .before .before .before .before .before .before .before .before .before .pre .1 .0, (enum-reads (opened t (c .before .before .before .before .before .before)) (c .before .before .before .before .before .before .before .before .before .pre .1 .1 .0) (enum-meant (cc)), marks-same (ap (typeLeads _) (enum-tree (opened t (c .before .before .before .before .before .before)) (c .before .before .before .before .before .before .before .before .before .pre .1 .1 .0) (enum-meant (cc)))) (c .before .before .before .before .before .before .before .before .before .pre .1 .1 .1))))
+walk-type-walk-enum-requires t c κs = (omega (arith, type-deep _ _ _ (c .before .before .before .before .before .before .before .before .before .before .pre .1 .1 .0), c .before .before .before .before .before .before .before .before .before .before .pre .0), (omega (arith, type-there _ _ _ (c .before .before .before .before .before .before .before .before .before .before .pre .1 .1 .0)), c .before .before .before .before .before .before .before .before .before .before .pre .1 .0, (enum-reads (opened t (c .before .before .before .before .before .before)) (c .before .before .before .before .before .before .before .before .before .before .pre .1 .1 .0) (enum-meant (cc)), marks-same (ap (typeLeads _) (enum-tree (opened t (c .before .before .before .before .before .before)) (c .before .before .before .before .before .before .before .before .before .before .pre .1 .1 .0) (enum-meant (cc)))) (c .before .before .before .before .before .before .before .before .before .before .pre .1 .1 .1))))
 
 walk-type-enum-told-6 : Ask-walk-type walk-type-lts.Need-enum-told-6
 walk-type-enum-told-6 t c = search needs
 
 walk-type-sub-walk-array : Ask-walk-type walk-type-lts.Need-sub-walk-array
-walk-type-sub-walk-array t c = omega (arith, type-deep _ _ _ (c .before .before .before .before .before .before .before .before .before .pre .1 .1 .0), c .before .before .before .before .before .before .before .before .before .pre .0)
+walk-type-sub-walk-array t c = omega (arith, type-deep _ _ _ (c .before .before .before .before .before .before .before .before .before .before .pre .1 .1 .0), c .before .before .before .before .before .before .before .before .before .before .pre .0)
 
 walk-type-walk-array-requires : Ask-walk-type walk-type-lts.Need-walk-array-requires
-walk-type-walk-array-requires t c κs = (omega (arith, type-deep _ _ _ (c .before .before .before .before .before .before .before .before .before .pre .1 .1 .0), c .before .before .before .before .before .before .before .before .before .pre .0), (omega (arith, type-there _ _ _ (c .before .before .before .before .before .before .before .before .before .pre .1 .1 .0)), c .before .before .before .before .before .before .before .before .before .pre .1 .0, (array-reads (opened t (c .before .before .before .before .before .before)) (c .before .before .before .before .before .before .before .before .before .pre .1 .1 .0) (array-meant (cc)), marks-same (ap (typeLeads _) (array-tree (opened t (c .before .before .before .before .before .before)) (c .before .before .before .before .before .before .before .before .before .pre .1 .1 .0) (array-meant (cc)))) (c .before .before .before .before .before .before .before .before .before .pre .1 .1 .1))))
+walk-type-walk-array-requires t c κs = (omega (arith, type-deep _ _ _ (c .before .before .before .before .before .before .before .before .before .before .pre .1 .1 .0), c .before .before .before .before .before .before .before .before .before .before .pre .0), (omega (arith, type-there _ _ _ (c .before .before .before .before .before .before .before .before .before .before .pre .1 .1 .0)), c .before .before .before .before .before .before .before .before .before .before .pre .1 .0, (array-reads (opened t (c .before .before .before .before .before .before)) (c .before .before .before .before .before .before .before .before .before .before .pre .1 .1 .0) (array-meant (cc)), marks-same (ap (typeLeads _) (array-tree (opened t (c .before .before .before .before .before .before)) (c .before .before .before .before .before .before .before .before .before .before .pre .1 .1 .0) (array-meant (cc)))) (c .before .before .before .before .before .before .before .before .before .before .pre .1 .1 .1))))
 
 walk-type-enum-told-7 : Ask-walk-type walk-type-lts.Need-enum-told-7
 walk-type-enum-told-7 t c = search needs
 
 walk-type-sub-walk-group-3 : Ask-walk-type walk-type-lts.Need-sub-walk-group-3
-walk-type-sub-walk-group-3 t c = omega (arith, type-deep _ _ _ (c .before .before .before .before .before .before .before .before .before .pre .1 .1 .0), c .before .before .before .before .before .before .before .before .before .pre .0)
+walk-type-sub-walk-group-3 t c = omega (arith, type-deep _ _ _ (c .before .before .before .before .before .before .before .before .before .before .pre .1 .1 .0), c .before .before .before .before .before .before .before .before .before .before .pre .0)
 
 walk-type-walk-group-requires-3 : Ask-walk-type walk-type-lts.Need-walk-group-requires-3
-walk-type-walk-group-requires-3 t c κs = (omega (arith, type-deep _ _ _ (c .before .before .before .before .before .before .before .before .before .pre .1 .1 .0), c .before .before .before .before .before .before .before .before .before .pre .0), (omega (arith, type-there _ _ _ (c .before .before .before .before .before .before .before .before .before .pre .1 .1 .0)), c .before .before .before .before .before .before .before .before .before .pre .1 .0, (sizeUnion-reads (opened t (c .before .before .before .before .before .before)) (c .before .before .before .before .before .before .before .before .before .pre .1 .1 .0) (sizeUnion-meant (cc)), marks-same (sizeUnion-leads _ (opened t (c .before .before .before .before .before .before)) (c .before .before .before .before .before .before .before .before .before .pre .1 .1 .0) (sizeUnion-meant (cc))) (c .before .before .before .before .before .before .before .before .before .pre .1 .1 .1))))
+walk-type-walk-group-requires-3 t c κs = (omega (arith, type-deep _ _ _ (c .before .before .before .before .before .before .before .before .before .before .pre .1 .1 .0), c .before .before .before .before .before .before .before .before .before .before .pre .0), (omega (arith, type-there _ _ _ (c .before .before .before .before .before .before .before .before .before .before .pre .1 .1 .0)), c .before .before .before .before .before .before .before .before .before .before .pre .1 .0, (sizeUnion-reads (opened t (c .before .before .before .before .before .before)) (c .before .before .before .before .before .before .before .before .before .before .pre .1 .1 .0) (sizeUnion-meant (cc)), marks-same (sizeUnion-leads _ (opened t (c .before .before .before .before .before .before)) (c .before .before .before .before .before .before .before .before .before .before .pre .1 .1 .0) (sizeUnion-meant (cc))) (c .before .before .before .before .before .before .before .before .before .before .pre .1 .1 .1))))
 
 walk-type-returns-2 : Ask-walk-type walk-type-lts.Need-returns-2
-walk-type-returns-2 t c = ended (sym (primitive-ends (opened t (c .before .before .before .before .before)) (primitive-meant (cc)))) (rw (primitive-leads _ (opened t (c .before .before .before .before .before)) (c .before .before .before .before .before .before .before .before .pre .1 .1 .0) (primitive-meant (cc))) (followed-none (c .before .before .before .before .before .before .before .before .pre .1 .1 .1)))
+walk-type-returns-2 t c = ended (sym (primitive-ends (opened t (c .before .before .before .before .before)) (primitive-meant (cc)))) (rw (primitive-leads _ (opened t (c .before .before .before .before .before)) (c .before .before .before .before .before .before .before .before .before .pre .1 .1 .0) (primitive-meant (cc))) (followed-none (c .before .before .before .before .before .before .before .before .before .pre .1 .1 .1)))
 
 walk-type-returns-3 : Ask-walk-type walk-type-lts.Need-returns-3
-walk-type-returns-3 t c = walked-same _ _ (typeRef-leads _ (opened t (c .before .before .before .before .before .before .before)) (c .before .before .before .before .before .before .before .before .before .before .pre .1 .1 .0) (typeRef-meant (cc))) (typeRef-next (opened t (c .before .before .before .before .before .before .before)) (c .before .before .before .before .before .before .before .before .before .before .pre .1 .1 .0) (typeRef-meant (cc))) (c .walk-name .ensures)
+walk-type-returns-3 t c = walked-same _ _ (typeRef-leads _ (opened t (c .before .before .before .before .before .before .before)) (c .before .before .before .before .before .before .before .before .before .before .before .pre .1 .1 .0) (typeRef-meant (cc))) (typeRef-next (opened t (c .before .before .before .before .before .before .before)) (c .before .before .before .before .before .before .before .before .before .before .before .pre .1 .1 .0) (typeRef-meant (cc))) (c .walk-name .ensures)
 
 walk-type-returns-4 : Ask-walk-type walk-type-lts.Need-returns-4
-walk-type-returns-4 t c = walked-same _ _ (struct-leads _ (opened t (c .before .before .before .before .before .before .before)) (c .before .before .before .before .before .before .before .before .before .before .pre .1 .1 .0) (struct-meant (cc))) (struct-ends (opened t (c .before .before .before .before .before .before .before)) (struct-meant (cc))) (c .walk-group .ensures)
+walk-type-returns-4 t c = walked-same _ _ (struct-leads _ (opened t (c .before .before .before .before .before .before .before)) (c .before .before .before .before .before .before .before .before .before .before .before .pre .1 .1 .0) (struct-meant (cc))) (struct-ends (opened t (c .before .before .before .before .before .before .before)) (struct-meant (cc))) (c .walk-group .ensures)
 
 walk-type-returns-5 : Ask-walk-type walk-type-lts.Need-returns-5
-walk-type-returns-5 t c = walked-same _ _ (union-leads _ (opened t (c .before .before .before .before .before .before .before)) (c .before .before .before .before .before .before .before .before .before .before .pre .1 .1 .0) (union-meant (cc))) (union-ends (opened t (c .before .before .before .before .before .before .before)) (union-meant (cc))) (c .walk-group2 .ensures)
+walk-type-returns-5 t c = walked-same _ _ (union-leads _ (opened t (c .before .before .before .before .before .before .before)) (c .before .before .before .before .before .before .before .before .before .before .before .pre .1 .1 .0) (union-meant (cc))) (union-ends (opened t (c .before .before .before .before .before .before .before)) (union-meant (cc))) (c .walk-group2 .ensures)
 
 walk-type-returns-6 : Ask-walk-type walk-type-lts.Need-returns-6
-walk-type-returns-6 t c = walked-same _ _ (ap (typeLeads _) (enum-tree (opened t (c .before .before .before .before .before .before .before)) (c .before .before .before .before .before .before .before .before .before .before .pre .1 .1 .0) (enum-meant (cc)))) (enum-ends (opened t (c .before .before .before .before .before .before .before)) (enum-meant (cc))) (c .walk-enum .ensures)
+walk-type-returns-6 t c = walked-same _ _ (ap (typeLeads _) (enum-tree (opened t (c .before .before .before .before .before .before .before)) (c .before .before .before .before .before .before .before .before .before .before .before .pre .1 .1 .0) (enum-meant (cc)))) (enum-ends (opened t (c .before .before .before .before .before .before .before)) (enum-meant (cc))) (c .walk-enum .ensures)
 
 walk-type-returns-7 : Ask-walk-type walk-type-lts.Need-returns-7
-walk-type-returns-7 t c = walked-same _ _ (ap (typeLeads _) (array-tree (opened t (c .before .before .before .before .before .before .before)) (c .before .before .before .before .before .before .before .before .before .before .pre .1 .1 .0) (array-meant (cc)))) (array-ends (opened t (c .before .before .before .before .before .before .before)) (array-meant (cc))) (c .walk-array .ensures)
+walk-type-returns-7 t c = walked-same _ _ (ap (typeLeads _) (array-tree (opened t (c .before .before .before .before .before .before .before)) (c .before .before .before .before .before .before .before .before .before .before .before .pre .1 .1 .0) (array-meant (cc)))) (array-ends (opened t (c .before .before .before .before .before .before .before)) (array-meant (cc))) (c .walk-array .ensures)
 
 walk-type-returns-8 : Ask-walk-type walk-type-lts.Need-returns-8
-walk-type-returns-8 t c = walked-same _ _ (sizeUnion-leads _ (opened t (c .before .before .before .before .before .before .before)) (c .before .before .before .before .before .before .before .before .before .before .pre .1 .1 .0) (sizeUnion-meant (cc))) (sizeUnion-ends (opened t (c .before .before .before .before .before .before .before)) (sizeUnion-meant (cc))) (c .walk-group3 .ensures)
+walk-type-returns-8 t c = walked-same _ _ (sizeUnion-leads _ (opened t (c .before .before .before .before .before .before .before)) (c .before .before .before .before .before .before .before .before .before .before .before .pre .1 .1 .0) (sizeUnion-meant (cc))) (sizeUnion-ends (opened t (c .before .before .before .before .before .before .before)) (sizeUnion-meant (cc))) (c .walk-group3 .ensures)
 
 pub +walk-array+walk-definition+walk-enum+walk-group+walk-members+walk-name+walk-type-spec :
     {M : Type 1} → statement M
@@ -507,7 +507,7 @@ pub +walk-array+walk-definition+walk-enum+walk-group+walk-members+walk-name+walk
     (walk-definition-returns-2 t)
     (walk-definition-element-write-marks t)
     (walk-definition-mul-at t)
-    (walk-definition-element-copy-out-at t)
+    (walk-definition-shared-slice-read-at t)
     (walk-definition-cast-at t)
     (walk-definition-walk-type-requires t)
     (walk-definition-enum-told t)

@@ -1,66 +1,70 @@
--- `bundle::definition_of` meets its contract. The invariant: the definitions passed have other names. Assumes nothing.
+-- `bundle::definition_of` meets its contract. Assumes nothing.
+use borrow.Author.Needs.{needs}
 use Rattle.bundle.proofs.definition_of.Statement.{statement}
 use Rattle.bundle.proofs.definition_of.Tie as tie
-use borrow.Author.Needs.{needs}
 use native.Mathlib.Omega.{arith}
-use Prim.Native.Nat.{_-_}
+use Prim.Native.Nat.{_+_}
 use mathlib.Core.Path.{sym, _∙_}
-use Rattle.bundle.specs.Definitions.{bundleOf}
-use Rattle.bundle.proofs.LookupLaws.{placed-at, place-there, Sought, sought-start, sought-here, sought-next, sought-end}
+use Rattle.bundle.proofs.LookupLaws.{placed-at, place-there}
+use Rattle.bundle.proofs.NameLaws.{noted-none, noted-here, noted-other}
 
-abbrev Inv-loop : tie.InvT-loop
-Inv-loop s places count name i₀ i = Sought (bundleOf s) name i
+add-place : tie.Need-add-place
+add-place c = search needs
 
-abbrev μ-loop : tie.MeasureT-loop
-μ-loop s places count name i₀ i = count - i
+scan-definitions-requires : tie.Need-scan-definitions-requires
+scan-definitions-requires c κs = search needs
 
-loop-holds : tie.Need-loop-holds Inv-loop μ-loop
-loop-holds c = sought-start _ _
+returns : tie.Need-returns
+returns c = search needs
 
-mul-at : tie.Need-mul-at Inv-loop μ-loop
-mul-at c = omega (arith, place-there (c .before .before .before .pre) _ (c .loop-test .taken), placed-at (c .before .before .before .pre) _ (c .loop-test .taken) .behind, c .before .before .before .pre .placed .room, c .before .before .before .pre .count)
+mul-i : tie.Need-mul-i
+mul-i c = search needs
 
-element-copy-out-at : tie.Need-element-copy-out-at Inv-loop μ-loop
-element-copy-out-at c = omega (arith, place-there (c .before .before .before .pre) _ (c .loop-test .taken), placed-at (c .before .before .before .pre) _ (c .loop-test .taken) .behind, c .before .before .before .pre .placed .room, c .before .before .before .pre .count)
+shared-slice-read-i : tie.Need-shared-slice-read-i
+shared-slice-read-i c = search needs
 
-cast-at : tie.Need-cast-at Inv-loop μ-loop
-cast-at c = record { fits = omega (arith, place-there (c .before .before .before .before .pre) _ (c .before .loop-test .taken), placed-at (c .before .before .before .before .pre) _ (c .before .loop-test .taken) .behind, c .before .before .before .before .pre .placed .room, c .before .before .before .before .pre .count) }
+cast-i : tie.Need-cast-i
+cast-i c = omega (arith, c .shared-slice-known3 .given (256 + c .before .before .before .before .args .name))
 
-sub-u16-at : tie.Need-sub-u16-at Inv-loop μ-loop
-sub-u16-at c = omega (arith, place-there (c .before .before .before .before .pre) _ (c .before .loop-test .taken), placed-at (c .before .before .before .before .pre) _ (c .before .loop-test .taken) .behind, c .before .before .before .before .pre .placed .room, c .before .before .before .before .pre .count)
+returns-2 : tie.Need-returns-2
+returns-2 c = noted-none (c .before .before .before .before .before .pre) _ (c .before .before .if1 .left) (c .if2 .taken)
 
-u16-at-requires : tie.Need-u16-at-requires Inv-loop μ-loop
-u16-at-requires c κs = omega (arith, place-there (c .before .before .before .before .pre) _ (c .before .loop-test .taken), placed-at (c .before .before .before .before .pre) _ (c .before .loop-test .taken) .behind, c .before .before .before .before .pre .placed .room, c .before .before .before .before .pre .count)
+mul-at : tie.Need-mul-at
+mul-at c = omega (arith, place-there (c .before .before .before .before .before .pre) _ (c .if2 .left), placed-at (c .before .before .before .before .before .pre) _ (c .if2 .left) .behind, c .before .before .before .before .before .pre .size, c .before .before .before .before .before .pre .placed .room, c .before .before .before .before .before .pre .count)
 
-returns : tie.Need-returns Inv-loop μ-loop
-returns c = sought-here (c .before .before .before .before .before .before .pre) (c .before .before .before .before .loop .inv) (c .before .before .before .loop-test .taken) (sym (c .before .u16-at .ensures) ∙ c .if1 .taken)
+shared-slice-read-at : tie.Need-shared-slice-read-at
+shared-slice-read-at c = omega (arith, place-there (c .before .before .before .before .before .before .pre) _ (c .before .if2 .left), placed-at (c .before .before .before .before .before .before .pre) _ (c .before .if2 .left) .behind, c .before .before .before .before .before .before .pre .size, c .before .before .before .before .before .before .pre .placed .room, c .before .before .before .before .before .before .pre .count)
 
-add-i : tie.Need-add-i Inv-loop μ-loop
-add-i c = search needs
+cast-at : tie.Need-cast-at
+cast-at c = record { fits = omega (arith, place-there (c .before .before .before .before .before .before .pre) _ (c .before .if2 .left), placed-at (c .before .before .before .before .before .before .pre) _ (c .before .if2 .left) .behind, c .before .before .before .before .before .before .pre .size, c .before .before .before .before .before .before .pre .placed .room, c .before .before .before .before .before .before .pre .count) }
 
-loop-less : tie.Need-loop-less Inv-loop μ-loop
-loop-less c = search needs
+sub-u16-at : tie.Need-sub-u16-at
+sub-u16-at c = omega (arith, place-there (c .before .before .before .before .before .before .pre) _ (c .before .if2 .left), placed-at (c .before .before .before .before .before .before .pre) _ (c .before .if2 .left) .behind, c .before .before .before .before .before .before .pre .size, c .before .before .before .before .before .before .pre .placed .room, c .before .before .before .before .before .before .pre .count)
 
-loop-again : tie.Need-loop-again Inv-loop μ-loop
-loop-again c = sought-next (c .before .before .before .before .before .before .pre) (c .before .before .before .before .loop .inv) (c .before .before .before .loop-test .taken) (λ e. c .if1 .left (c .before .u16-at .ensures ∙ e))
+u16-at-requires : tie.Need-u16-at-requires
+u16-at-requires c κs = omega (arith, place-there (c .before .before .before .before .before .before .pre) _ (c .before .if2 .left), placed-at (c .before .before .before .before .before .before .pre) _ (c .before .if2 .left) .behind, c .before .before .before .before .before .before .pre .size, c .before .before .before .before .before .before .pre .placed .room, c .before .before .before .before .before .before .pre .count)
 
-returns-2 : tie.Need-returns-2 Inv-loop μ-loop
-returns-2 c = sought-end (c .before .before .before .pre) (c .before .loop .inv) (omega arith)
+returns-3 : tie.Need-returns-3
+returns-3 c = noted-here (c .before .before .before .before .before .before .before .before .pre) _ (c .before .before .before .before .before .if1 .left) (c .before .before .before .if2 .left) (sym (c .before .u16-at .ensures) ∙ c .if3 .taken)
+
+returns-4 : tie.Need-returns-4
+returns-4 c = noted-other (c .before .before .before .before .before .before .before .before .pre) _ (c .before .before .before .before .before .if1 .left) (c .before .before .before .if2 .left) (λ e. c .if3 .left (c .before .u16-at .ensures ∙ e))
 
 pub definition-of-spec : {M : Type 1} → statement M
 definition-of-spec =
     tie.close
     (tie.spec
-    Inv-loop
-    μ-loop
-    loop-holds
+    add-place
+    scan-definitions-requires
+    returns
+    mul-i
+    shared-slice-read-i
+    cast-i
+    returns-2
     mul-at
-    element-copy-out-at
+    shared-slice-read-at
     cast-at
     sub-u16-at
     u16-at-requires
-    returns
-    add-i
-    loop-less
-    loop-again
-    returns-2)
+    returns-3
+    returns-4)
