@@ -17,6 +17,8 @@ use Rattle.meaning.specs.Violations.{Violation, violation, enumForward, enumCyc
 use Rattle.meaning.specs.Violations.{isLaterField, typeNeedsFieldRefForLayout, checkForwardReference}
 use Rattle.bundle.specs.declared.Layout.{Layout}
 use Rattle.bundle.specs.Definitions.{bundleOf, EdgesFrom}
+use Rattle.chain.specs.Edges.{graphAt}
+use Rattle.chain.specs.Index.{Prepared}
 use Rattle.sizes.specs.Paths.{Fit}
 use Rattle.sizes.specs.Scan.{pathAt, referencesFrom, Fits}
 use Rattle.sizes.specs.declared.Found as found
@@ -82,6 +84,10 @@ pub record GraphOf (s : List ℕ) (l : Layout) : Type 0 where
   pub few : l .edges ≤ edgeLimit
   pub from : EdgesFrom s (bundleOf s .edges) (l .«edges_at»)
   pub current : l .current ≡ bundleOf s .current
+
+-- the edges of the bundle are prepared for searches
+abbrev pub EdgesPrepared : List ℕ → Layout → List ℕ → List ℕ → List ℕ → List ℕ → List ℕ → ℕ → Type 0
+EdgesPrepared s l names table ends first links m = Prepared (graphAt s (l .«edges_at») (l .edges)) (l .edges) names table ends first links m
 
 -- `known` has 2 for each of n definitions whose size depends on field references, and another number for the others
 pub record Known (s : List ℕ) (n : ℕ) (known : List ℕ) : Type 0 where

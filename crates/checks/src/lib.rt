@@ -21,10 +21,11 @@ ghost use Rattle.bundle.specs.View.{Reads};
 ghost use Rattle.bundle.specs.Definitions.{typeAt, bundleOf, Table};
 ghost use Rattle.bundle.specs.Opened.{LayoutOf};
 ghost use Rattle.chain.specs.Found.{Answers};
+ghost use Rattle.chain.specs.Index.{Workspace};
 ghost use Rattle.sizes.specs.Paths.{Fit};
 ghost use Rattle.sizes.specs.Scan.{pathAt, referencesFrom, Fits};
 ghost use Rattle.sizes.specs.Tests.{Acyclic, Kept};
-ghost use Rattle.checks.specs.Checks.{targetAt, typePart, PartOf, Checked, GraphOf, Known, Referred, isForward, Forwarded, ForwardIn};
+ghost use Rattle.checks.specs.Checks.{targetAt, typePart, PartOf, Checked, GraphOf, EdgesPrepared, Known, Referred, isForward, Forwarded, ForwardIn};
 
 // What a check finds: nothing, or a violation by its type. The chain stands beside it in a lent list.
 pub enum Check {
@@ -53,18 +54,43 @@ fn set_chain(list: &mut [u16], a: u16, b: u16, c: u16)
     list[2] = c;
 }
 
-// The chain from one name to another over the edges of the bundle, into the first places of the list.
+// The chain from one name to another over the edges of the bundle, into the first places of the list. The edges are prepared once for
+// all searches: `names`, `table`, `ends`, `first` and `links`, with `m` names. What `queue`, `parents` and `marks` hold is free.
 fn find_layout_dependency_chain(
     s: &[u8],
     layout: Layout,
     from: u16,
     to: u16,
+    names: &[u16],
+    table: &[u16],
+    ends: &[u16],
+    first: &[u16],
+    links: &[u16],
+    m: usize,
+    queue: &mut [u16],
+    parents: &mut [u16],
+    marks: &mut [u16],
     list: &mut [u16],
 ) -> Found
+    requires { ⌜ EdgesPrepared (now s) layout (now names) (now table) (now ends) (now first) (now links) m × Workspace (layout .edges) (now queue) (now parents) ⌝ }
     requires { ⌜ GraphOf (now s) layout ⌝ }
     ensures { λ r. ⌜ Answers (findLayoutDependencyChain (bundleOf (now (s .entry))) from to) (now (list .entry)) (now (list .exit)) r ⌝ }
 {
-    chain::find_chain_at(s, layout.edges_at, layout.edges, from, to, list)
+    chain::search(
+        names,
+        table,
+        ends,
+        first,
+        links,
+        layout.edges,
+        m,
+        from,
+        to,
+        queue,
+        parents,
+        marks,
+        list,
+    )
 }
 
 // The field part of a reference.
@@ -136,8 +162,18 @@ pub fn check_enum_tag_layout_cycle(
     known: &[u8; 256],
     name: u16,
     path: usize,
+    names: &[u16],
+    table: &[u16],
+    ends: &[u16],
+    first: &[u16],
+    links: &[u16],
+    m: usize,
+    queue: &mut [u16],
+    parents: &mut [u16],
+    marks: &mut [u16],
     list: &mut [u16],
 ) -> Check
+    requires { ⌜ EdgesPrepared (now s) layout (now names) (now table) (now ends) (now first) (now links) m × Workspace (layout .edges) (now queue) (now parents) ⌝ }
     requires { ⌜ LayoutOf (now s) layout (now places) × Known (now s) (layout .definitions) (now known) ⌝ }
     requires { ⌜ Fit (now s) path × (1025 ≤ length (now list)) ⌝ }
     ensures { λ r. ⌜ Checked (now (s .entry)) name (now (list .exit)) r (λ i. checkEnumTagLayoutCycle (bundleOf (now (s .entry))) i name (pathAt (now (s .entry)) path)) ⌝ }
@@ -158,7 +194,22 @@ pub fn check_enum_tag_layout_cycle(
     if !size_depends(s, places, count, known, name) {
         return Check::Fine;
     }
-    let found = find_layout_dependency_chain(s, layout, target.name, name, list);
+    let found = find_layout_dependency_chain(
+        s,
+        layout,
+        target.name,
+        name,
+        names,
+        table,
+        ends,
+        first,
+        links,
+        m,
+        queue,
+        parents,
+        marks,
+        list,
+    );
     match found {
         Found::Missing => Check::Fine,
         Found::Chain(n) => Check::EnumCycle(path, n),
@@ -171,13 +222,38 @@ pub fn check_array_size_layout_cycle(
     layout: Layout,
     name: u16,
     path: usize,
+    names: &[u16],
+    table: &[u16],
+    ends: &[u16],
+    first: &[u16],
+    links: &[u16],
+    m: usize,
+    queue: &mut [u16],
+    parents: &mut [u16],
+    marks: &mut [u16],
     list: &mut [u16],
 ) -> Check
+    requires { ⌜ EdgesPrepared (now s) layout (now names) (now table) (now ends) (now first) (now links) m × Workspace (layout .edges) (now queue) (now parents) ⌝ }
     requires { ⌜ GraphOf (now s) layout × Fit (now s) path × (1025 ≤ length (now list)) ⌝ }
     ensures { λ r. ⌜ Checked (now (s .entry)) name (now (list .exit)) r (λ i. checkArraySizeLayoutCycle (bundleOf (now (s .entry))) i name (pathAt (now (s .entry)) path)) ⌝ }
 {
     let target = sizes::parse_field_reference(s, path, layout.current);
-    let found = find_layout_dependency_chain(s, layout, target.name, name, list);
+    let found = find_layout_dependency_chain(
+        s,
+        layout,
+        target.name,
+        name,
+        names,
+        table,
+        ends,
+        first,
+        links,
+        m,
+        queue,
+        parents,
+        marks,
+        list,
+    );
     match found {
         Found::Missing => Check::Fine,
         Found::Chain(n) => Check::ArrayCycle(path, n),

@@ -16,12 +16,13 @@ ghost use Rattle.meaning.specs.Lists.{filterMap, push};
 ghost use Rattle.meaning.specs.Violations.{violations};
 ghost use Rattle.bundle.specs.Definitions.{bundleOf};
 ghost use Rattle.bundle.specs.Opened.{LayoutOf};
+ghost use Rattle.chain.specs.Index.{Workspace};
 ghost use Rattle.sizes.specs.Paths.{Fit};
 ghost use Rattle.sizes.specs.Scan.{pathAt, pathsFrom, referencesFrom, Fits};
 ghost use Rattle.sizes.specs.Tests.{Acyclic, Kept};
 ghost use Rattle.fields.specs.Shapes.{StructAt, EnumAt, ArrayAt};
 ghost use Rattle.violation.specs.Records.{padded};
-ghost use Rattle.checks.specs.Checks.{violationOf, Fitting, Checked, Known};
+ghost use Rattle.checks.specs.Checks.{violationOf, Fitting, Checked, EdgesPrepared, Known};
 ghost use Rattle.validate.specs.Validating.{Recorded, Wrote, Room, recordWith, pathOfTwo, checkReference, violationsOf, violationsAt};
 
 // How far a report is written: the place behind it, and the count of its violations.
@@ -146,16 +147,58 @@ fn check_reference(
     name: u16,
     tag: bool,
     path: usize,
+    names: &[u16],
+    table: &[u16],
+    ends: &[u16],
+    first: &[u16],
+    links: &[u16],
+    m: usize,
+    queue: &mut [u16],
+    parents: &mut [u16],
+    marks: &mut [u16],
     list: &mut [u16],
 ) -> Check
+    requires { ⌜ EdgesPrepared (now s) layout (now names) (now table) (now ends) (now first) (now links) m × Workspace (layout .edges) (now queue) (now parents) ⌝ }
     requires { ⌜ LayoutOf (now s) layout (now places) × Known (now s) (layout .definitions) (now known) ⌝ }
     requires { ⌜ Fit (now s) path × (1025 ≤ length (now list)) ⌝ }
     ensures { λ r. ⌜ Checked (now (s .entry)) name (now (list .exit)) r (λ i. checkReference tag (bundleOf (now (s .entry))) i name (pathAt (now (s .entry)) path)) ⌝ }
 {
     if tag {
-        return checks::check_enum_tag_layout_cycle(s, places, layout, known, name, path, list);
+        return checks::check_enum_tag_layout_cycle(
+            s,
+            places,
+            layout,
+            known,
+            name,
+            path,
+            names,
+            table,
+            ends,
+            first,
+            links,
+            m,
+            queue,
+            parents,
+            marks,
+            list,
+        );
     }
-    checks::check_array_size_layout_cycle(s, layout, name, path, list)
+    checks::check_array_size_layout_cycle(
+        s,
+        layout,
+        name,
+        path,
+        names,
+        table,
+        ends,
+        first,
+        links,
+        m,
+        queue,
+        parents,
+        marks,
+        list,
+    )
 }
 
 // Checks each reference from `at` to `end`, and writes what is found.
@@ -168,10 +211,20 @@ fn validate_references(
     tag: bool,
     at: usize,
     end: usize,
+    names: &[u16],
+    table: &[u16],
+    ends: &[u16],
+    first: &[u16],
+    links: &[u16],
+    m: usize,
+    queue: &mut [u16],
+    parents: &mut [u16],
+    marks: &mut [u16],
     list: &mut [u16],
     out: &mut [u8],
     position: Position,
 ) -> Position
+    requires { ⌜ EdgesPrepared (now s) layout (now names) (now table) (now ends) (now first) (now links) m × Workspace (layout .edges) (now queue) (now parents) ⌝ }
     requires { ⌜ LayoutOf (now s) layout (now places) × Known (now s) (layout .definitions) (now known) × (subject .number < definitionLimit) ⌝ }
     requires { ⌜ (1025 ≤ length (now list)) × (end ≤ length (now s)) × Fits (now s) (referencesFrom (now s) at end) ⌝ }
     requires { ⌜ Room position (filterMap (checkReference tag (bundleOf (now s)) (subject .number) (subject .name)) (pathsFrom (now s) at end)) ⌝ }
@@ -186,7 +239,25 @@ fn validate_references(
         let Reference::At(path, after) = reference else {
             return reached;
         };
-        let check = check_reference(s, places, layout, known, name, tag, path, list);
+        let check = check_reference(
+            s,
+            places,
+            layout,
+            known,
+            name,
+            tag,
+            path,
+            names,
+            table,
+            ends,
+            first,
+            links,
+            m,
+            queue,
+            parents,
+            marks,
+            list,
+        );
         reached = put_check(s, out, reached, i, name, check, list);
         next = after;
     }
@@ -200,10 +271,20 @@ fn validate_enum_tag_constraints(
     layout: Layout,
     known: &[u8; 256],
     subject: Subject,
+    names: &[u16],
+    table: &[u16],
+    ends: &[u16],
+    first: &[u16],
+    links: &[u16],
+    m: usize,
+    queue: &mut [u16],
+    parents: &mut [u16],
+    marks: &mut [u16],
     list: &mut [u16],
     out: &mut [u8],
     position: Position,
 ) -> Position
+    requires { ⌜ EdgesPrepared (now s) layout (now names) (now table) (now ends) (now first) (now links) m × Workspace (layout .edges) (now queue) (now parents) ⌝ }
     requires { ⌜ LayoutOf (now s) layout (now places) × Known (now s) (layout .definitions) (now known) × (subject .number < definitionLimit) ⌝ }
     requires { ⌜ (1025 ≤ length (now list)) × EnumAt 24 (now s) (subject .at) × Room position (violationsOf (now s) subject) ⌝ }
     ensures { λ r. ⌜ Wrote (violationsOf (now (s .entry)) subject) (now (out .entry)) position (now (out .exit)) r ⌝ }
@@ -220,6 +301,15 @@ fn validate_enum_tag_constraints(
             true,
             start,
             end,
+            names,
+            table,
+            ends,
+            first,
+            links,
+            m,
+            queue,
+            parents,
+            marks,
             list,
             out,
             position,
@@ -238,10 +328,20 @@ fn validate_array_size_constraints(
     nested: &mut [u8; 256],
     subject: Subject,
     jagged: u8,
+    names: &[u16],
+    table: &[u16],
+    ends: &[u16],
+    first: &[u16],
+    links: &[u16],
+    m: usize,
+    queue: &mut [u16],
+    parents: &mut [u16],
+    marks: &mut [u16],
     list: &mut [u16],
     out: &mut [u8],
     position: Position,
 ) -> Position
+    requires { ⌜ EdgesPrepared (now s) layout (now names) (now table) (now ends) (now first) (now links) m × Workspace (layout .edges) (now queue) (now parents) ⌝ }
     requires { ⌜ LayoutOf (now s) layout (now places) × Known (now s) (layout .definitions) (now known) × (subject .number < definitionLimit) ⌝ }
     requires { ⌜ (1025 ≤ length (now list)) × ArrayAt 24 (now s) (subject .at) jagged × Room position (violationsOf (now s) subject) ⌝ }
     requires { ⌜ Acyclic (now s) × Kept (now s) false (now kept) × Kept (now s) true (now nested) ⌝ }
@@ -274,6 +374,15 @@ fn validate_array_size_constraints(
                 false,
                 start,
                 element,
+                names,
+                table,
+                ends,
+                first,
+                links,
+                m,
+                queue,
+                parents,
+                marks,
                 list,
                 out,
                 next,
@@ -332,10 +441,20 @@ fn validate_type(
     kept: &mut [u8; 256],
     nested: &mut [u8; 256],
     i: usize,
+    names: &[u16],
+    table: &[u16],
+    ends: &[u16],
+    first: &[u16],
+    links: &[u16],
+    m: usize,
+    queue: &mut [u16],
+    parents: &mut [u16],
+    marks: &mut [u16],
     list: &mut [u16],
     out: &mut [u8],
     position: Position,
 ) -> Position
+    requires { ⌜ EdgesPrepared (now s) layout (now names) (now table) (now ends) (now first) (now links) m × Workspace (layout .edges) (now queue) (now parents) ⌝ }
     requires { ⌜ LayoutOf (now s) layout (now places) × Known (now s) (layout .definitions) (now known) × (i < layout .definitions) ⌝ }
     requires { ⌜ (1025 ≤ length (now list)) × Room position (violationsAt (now s) (now places) i) ⌝ }
     requires { ⌜ Acyclic (now s) × Kept (now s) false (now kept) × Kept (now s) true (now nested) ⌝ }
@@ -366,6 +485,15 @@ fn validate_type(
             layout,
             known,
             subject,
+            names,
+            table,
+            ends,
+            first,
+            links,
+            m,
+            queue,
+            parents,
+            marks,
             list,
             out,
             position,
@@ -379,6 +507,15 @@ fn validate_type(
             nested,
             subject,
             jagged,
+            names,
+            table,
+            ends,
+            first,
+            links,
+            m,
+            queue,
+            parents,
+            marks,
             list,
             out,
             position,
@@ -396,10 +533,20 @@ pub fn validate_layout_constraints(
     known: &[u8; 256],
     kept: &mut [u8; 256],
     nested: &mut [u8; 256],
+    names: &[u16],
+    table: &[u16],
+    ends: &[u16],
+    first: &[u16],
+    links: &[u16],
+    m: usize,
+    queue: &mut [u16],
+    parents: &mut [u16],
+    marks: &mut [u16],
     list: &mut [u16],
     out: &mut [u8],
     position: Position,
 ) -> Position
+    requires { ⌜ EdgesPrepared (now s) layout (now names) (now table) (now ends) (now first) (now links) m × Workspace (layout .edges) (now queue) (now parents) ⌝ }
     requires { ⌜ LayoutOf (now s) layout (now places) × Known (now s) (layout .definitions) (now known) ⌝ }
     requires { ⌜ (1025 ≤ length (now list)) × Room position (violations (bundleOf (now s))) ⌝ }
     requires { ⌜ Acyclic (now s) × Kept (now s) false (now kept) × Kept (now s) true (now nested) ⌝ }
@@ -417,6 +564,15 @@ pub fn validate_layout_constraints(
             kept,
             nested,
             i,
+            names,
+            table,
+            ends,
+            first,
+            links,
+            m,
+            queue,
+            parents,
+            marks,
             list,
             out,
             reached,

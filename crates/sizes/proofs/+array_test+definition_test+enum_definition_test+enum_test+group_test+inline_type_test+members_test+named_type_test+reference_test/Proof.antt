@@ -278,7 +278,7 @@ abbrev Ask-array-test : (array-test-lts.Claims → In 3 array-test-kinds.ps → 
 Ask-array-test N = (t : ℕ) → N (calls-array-test t) (array-test-at t) array-test.Post
 
 array-test-array-head-at-requires : Ask-array-test array-test-lts.Need-array-head-at-requires
-array-test-array-head-at-requires t c κs = c .before .pre .1 .0
+array-test-array-head-at-requires t c κs = c .before .before .pre .1 .0
 
 array-test-enum-known-head : Ask-array-test array-test-lts.Need-enum-known-head
 array-test-enum-known-head t c = search needs
@@ -287,7 +287,7 @@ array-test-enum-told : Ask-array-test array-test-lts.Need-enum-told
 array-test-enum-told t c = search needs
 
 array-test-returns : Ask-array-test array-test-lts.Need-returns
-array-test-returns t c = absurd (array-no _ _ _ (c .before .before .before .before .pre .1 .2 .0) _ (sym (c .enum-told .given .1) ∙ c .before .before .array-head-at .ensures))
+array-test-returns t c = absurd (array-no _ _ _ (c .before .before .before .before .before .pre .1 .2 .0) _ (sym (c .enum-told .given .1) ∙ c .before .before .array-head-at .ensures))
 
 array-test-expr-at-requires : Ask-array-test array-test-lts.Need-expr-at-requires
 array-test-expr-at-requires t c κs = search needs
@@ -299,31 +299,31 @@ array-test-enum-told-2 : Ask-array-test array-test-lts.Need-enum-told-2
 array-test-enum-told-2 t c = search needs
 
 array-test-returns-2 : Ask-array-test array-test-lts.Need-returns-2
-array-test-returns-2 t c = absurd (size-no _ _ _ (c .before .before .before .before .before .before .before .before .pre .1 .2 .0) _ _ (sym (c .before .before .before .before .head .given .1) ∙ c .before .before .before .before .before .before .array-head-at .ensures) (sym (c .enum-told2 .given .1) ∙ c .before .before .expr-at .ensures))
+array-test-returns-2 t c = absurd (size-no _ _ _ (c .before .before .before .before .before .before .before .before .before .pre .1 .2 .0) _ _ (sym (c .before .before .before .before .head .given .1) ∙ c .before .before .before .before .before .before .array-head-at .ensures) (sym (c .enum-told2 .given .1) ∙ c .before .before .expr-at .ensures))
 
 array-test-array-counts-requires : Ask-array-test array-test-lts.Need-array-counts-requires
-array-test-array-counts-requires t c κs = (c .before .before .before .before .before .before .before .before .before .pre .1 .2 .1 .small, array-where _ _ _ (sym (c .before .before .before .before .before .head .given .1) ∙ c .before .before .before .before .before .before .before .array-head-at .ensures) .1, size-reads _ _ _ _ _ (sym (c .before .before .before .before .before .head .given .1) ∙ c .before .before .before .before .before .before .before .array-head-at .ensures) (c .before .before .before .before .before .before .before .before .before .pre .1 .2 .0))
+array-test-array-counts-requires t c κs = (c .before .before .before .before .before .before .before .before .before .before .pre .1 .2 .1 .small, array-where _ _ _ (sym (c .before .before .before .before .before .head .given .1) ∙ c .before .before .before .before .before .before .before .array-head-at .ensures) .1, size-reads _ _ _ _ _ (sym (c .before .before .before .before .before .head .given .1) ∙ c .before .before .before .before .before .before .before .array-head-at .ensures) (c .before .before .before .before .before .before .before .before .before .before .pre .1 .2 .0))
 
 array-test-returns-3 : Ask-array-test array-test-lts.Need-returns-3
-array-test-returns-3 t c = (sym (array-counts _ _ _ _ _ _ (sym (c .before .before .before .before .before .before .before .head .given .1) ∙ c .before .before .before .before .before .before .before .before .before .array-head-at .ensures) (c .before .before .before .before .before .before .before .before .before .before .before .pre .1 .2 .0) (sym (c .before .before .before .size .given .1) ∙ c .before .before .before .before .before .expr-at .ensures) (sym (c .if1 .taken) ∙ c .before .array-counts .ensures)), c .before .before .before .before .before .before .before .before .before .before .before .pre .1 .2 .1 .keeps)
+array-test-returns-3 t c = (sym (array-counts _ _ _ _ _ _ (sym (c .before .before .before .before .before .before .before .head .given .1) ∙ c .before .before .before .before .before .before .before .before .before .array-head-at .ensures) (c .before .before .before .before .before .before .before .before .before .before .before .before .pre .1 .2 .0) (sym (c .before .before .before .size .given .1) ∙ c .before .before .before .before .before .expr-at .ensures) (sym (c .if1 .taken) ∙ c .before .array-counts .ensures)), c .before .before .before .before .before .before .before .before .before .before .before .before .pre .1 .2 .1 .keeps)
 
 array-test-inline-type-test-requires : Ask-array-test array-test-lts.Need-inline-type-test-requires
-array-test-inline-type-test-requires t c κs = (omega (arith, c .before .before .before .before .before .before .before .before .before .before .before .before .pre .0), ((c .before .before .before .before .before .before .before .before .before .before .before .before .pre .1 .1), (element-reads _ _ _ _ _ (sym (c .before .before .before .before .before .before .before .before .head .given .1) ∙ c .before .before .before .before .before .before .before .before .before .before .array-head-at .ensures) (c .before .before .before .before .before .before .before .before .before .before .before .before .pre .1 .2 .0) _ (sym (c .before .before .before .before .size .given .1) ∙ c .before .before .before .before .before .before .expr-at .ensures), ready-same (array-leads _ _ _ _ _ _ (c .before .before .before .before .before .before .before .before .before .before .before .before .pre .1 .2 .0) (sym (c .before .before .before .before .before .before .before .before .head .given .1) ∙ c .before .before .before .before .before .before .before .before .before .before .array-head-at .ensures) (sym (c .before .before .before .before .size .given .1) ∙ c .before .before .before .before .before .before .expr-at .ensures)) (c .before .before .before .before .before .before .before .before .before .before .before .before .pre .1 .2 .1))))
+array-test-inline-type-test-requires t c κs = (omega (arith, c .before .before .before .before .before .before .before .before .before .before .before .before .before .pre .0), ((c .before .before .before .before .before .before .before .before .before .before .before .before .before .pre .1 .1), (element-reads _ _ _ _ _ (sym (c .before .before .before .before .before .before .before .before .head .given .1) ∙ c .before .before .before .before .before .before .before .before .before .before .array-head-at .ensures) (c .before .before .before .before .before .before .before .before .before .before .before .before .before .pre .1 .2 .0) _ (sym (c .before .before .before .before .size .given .1) ∙ c .before .before .before .before .before .before .expr-at .ensures), ready-same (array-leads _ _ _ _ _ _ (c .before .before .before .before .before .before .before .before .before .before .before .before .before .pre .1 .2 .0) (sym (c .before .before .before .before .before .before .before .before .head .given .1) ∙ c .before .before .before .before .before .before .before .before .before .before .array-head-at .ensures) (sym (c .before .before .before .before .size .given .1) ∙ c .before .before .before .before .before .before .expr-at .ensures)) (c .before .before .before .before .before .before .before .before .before .before .before .before .before .pre .1 .2 .1))))
 
 array-test-returns-4 : Ask-array-test array-test-lts.Need-returns-4
-array-test-returns-4 t c = (c .inline-type-test .ensures .0 ∙ array-tested _ _ _ _ _ _ (sym (c .before .before .before .before .before .before .before .before .before .head .given .1) ∙ c .before .before .before .before .before .before .before .before .before .before .before .array-head-at .ensures) (c .before .before .before .before .before .before .before .before .before .before .before .before .before .pre .1 .2 .0) (sym (c .before .before .before .before .before .size .given .1) ∙ c .before .before .before .before .before .before .before .expr-at .ensures) (sym (c .before .before .if1 .left) ∙ c .before .before .before .array-counts .ensures), c .inline-type-test .ensures .1)
+array-test-returns-4 t c = (c .inline-type-test .ensures .0 ∙ array-tested _ _ _ _ _ _ (sym (c .before .before .before .before .before .before .before .before .before .head .given .1) ∙ c .before .before .before .before .before .before .before .before .before .before .before .array-head-at .ensures) (c .before .before .before .before .before .before .before .before .before .before .before .before .before .before .pre .1 .2 .0) (sym (c .before .before .before .before .before .size .given .1) ∙ c .before .before .before .before .before .before .before .expr-at .ensures) (sym (c .before .before .if1 .left) ∙ c .before .before .before .array-counts .ensures), c .inline-type-test .ensures .1)
 
 definition-test-inline-type-test-requires : Ask-definition-test definition-test-lts.Need-inline-type-test-requires
-definition-test-inline-type-test-requires t c κs = (omega (arith, c .before .before .before .pre .0), ((c .before .before .before .pre .1 .0), ((c .before .before .before .pre .1 .1 .0), (c .before .before .before .pre .1 .1 .1))))
+definition-test-inline-type-test-requires t c κs = (omega (arith, c .before .before .before .before .pre .0), ((c .before .before .before .before .pre .1 .0), ((c .before .before .before .before .pre .1 .1 .0), (c .before .before .before .before .pre .1 .1 .1))))
 
 definition-test-is-holds-requires : Ask-definition-test definition-test-lts.Need-is-holds-requires
 definition-test-is-holds-requires t c κs = search needs
 
 definition-test-returns : Ask-definition-test definition-test-lts.Need-returns
-definition-test-returns t c = (c .is-holds .ensures ∙ jagged-named _ _ _ (c .before .before .before .before .before .pre .1 .1 .0) _ (c .before .inline-type-test .ensures .0) (c .before .before .before .if1 .taken), c .before .inline-type-test .ensures .1)
+definition-test-returns t c = (c .is-holds .ensures ∙ jagged-named _ _ _ (c .before .before .before .before .before .before .pre .1 .1 .0) _ (c .before .inline-type-test .ensures .0) (c .before .before .before .if1 .taken), c .before .inline-type-test .ensures .1)
 
 definition-test-shared-slice-read-kind : Ask-definition-test definition-test-lts.Need-shared-slice-read-kind
-definition-test-shared-slice-read-kind t c = type-there _ _ _ (c .before .before .before .pre .1 .1 .0)
+definition-test-shared-slice-read-kind t c = type-there _ _ _ (c .before .before .before .before .pre .1 .1 .0)
 
 definition-test-form-of-requires : Ask-definition-test definition-test-lts.Need-form-of-requires
 definition-test-form-of-requires t c κs = search needs
@@ -332,7 +332,7 @@ definition-test-enum-known-form : Ask-definition-test definition-test-lts.Need-e
 definition-test-enum-known-form t c = search needs
 
 definition-test-returns-2 : Ask-definition-test definition-test-lts.Need-returns-2
-definition-test-returns-2 t c = absurd (no-other (type-opened _ _ _ _ (c .before .before .before .before .before .pre .1 .1 .0) (c .before .form-of .ensures)) (c .before .before .before .before .before .pre .1 .1 .0) (not-type _ (c .match .keys2)))
+definition-test-returns-2 t c = absurd (no-other (type-opened _ _ _ _ (c .before .before .before .before .before .before .pre .1 .1 .0) (c .before .form-of .ensures)) (c .before .before .before .before .before .before .pre .1 .1 .0) (not-type _ (c .match .keys2)))
 
 definition-test-enum-told : Ask-definition-test definition-test-lts.Need-enum-told
 definition-test-enum-told t c = search needs
@@ -344,7 +344,7 @@ definition-test-enum-told-3 : Ask-definition-test definition-test-lts.Need-enum-
 definition-test-enum-told-3 t c = search needs
 
 definition-test-inline-type-test-requires-2 : Ask-definition-test definition-test-lts.Need-inline-type-test-requires-2
-definition-test-inline-type-test-requires-2 t c κs = (omega (arith, c .before .before .before .before .before .before .before .before .before .before .pre .0), ((c .before .before .before .before .before .before .before .before .before .before .pre .1 .0), ((c .before .before .before .before .before .before .before .before .before .before .pre .1 .1 .0), (c .before .before .before .before .before .before .before .before .before .before .pre .1 .1 .1))))
+definition-test-inline-type-test-requires-2 t c κs = (omega (arith, c .before .before .before .before .before .before .before .before .before .before .before .pre .0), ((c .before .before .before .before .before .before .before .before .before .before .before .pre .1 .0), ((c .before .before .before .before .before .before .before .before .before .before .before .pre .1 .1 .0), (c .before .before .before .before .before .before .before .before .before .before .before .pre .1 .1 .1))))
 
 definition-test-is-holds-requires-2 : Ask-definition-test definition-test-lts.Need-is-holds-requires-2
 definition-test-is-holds-requires-2 t c κs = search needs
@@ -353,7 +353,7 @@ definition-test-enum-told-4 : Ask-definition-test definition-test-lts.Need-enum-
 definition-test-enum-told-4 t c = search needs
 
 definition-test-inline-type-test-requires-3 : Ask-definition-test definition-test-lts.Need-inline-type-test-requires-3
-definition-test-inline-type-test-requires-3 t c κs = (omega (arith, c .before .before .before .before .before .before .before .before .before .before .pre .0), ((c .before .before .before .before .before .before .before .before .before .before .pre .1 .0), ((c .before .before .before .before .before .before .before .before .before .before .pre .1 .1 .0), (c .before .before .before .before .before .before .before .before .before .before .pre .1 .1 .1))))
+definition-test-inline-type-test-requires-3 t c κs = (omega (arith, c .before .before .before .before .before .before .before .before .before .before .before .pre .0), ((c .before .before .before .before .before .before .before .before .before .before .before .pre .1 .0), ((c .before .before .before .before .before .before .before .before .before .before .before .pre .1 .1 .0), (c .before .before .before .before .before .before .before .before .before .before .before .pre .1 .1 .1))))
 
 definition-test-is-holds-requires-3 : Ask-definition-test definition-test-lts.Need-is-holds-requires-3
 definition-test-is-holds-requires-3 t c κs = search needs
@@ -362,46 +362,46 @@ definition-test-enum-told-5 : Ask-definition-test definition-test-lts.Need-enum-
 definition-test-enum-told-5 t c = search needs
 
 definition-test-add-enum-definition-test : Ask-definition-test definition-test-lts.Need-add-enum-definition-test
-definition-test-add-enum-definition-test t c = omega (arith, type-there _ _ _ (c .before .before .before .before .before .before .before .before .before .before .pre .1 .1 .0))
+definition-test-add-enum-definition-test t c = omega (arith, type-there _ _ _ (c .before .before .before .before .before .before .before .before .before .before .before .pre .1 .1 .0))
 
 definition-test-enum-definition-test-requires : Ask-definition-test definition-test-lts.Need-enum-definition-test-requires
-definition-test-enum-definition-test-requires t c κs = (omega (arith, c .before .before .before .before .before .before .before .before .before .before .pre .0), (c .before .before .before .before .before .before .before .before .if1 .left, omega (arith, type-there _ _ _ (c .before .before .before .before .before .before .before .before .before .before .pre .1 .1 .0)), (c .before .before .before .before .before .before .before .before .before .before .pre .1 .0), (enum-reads (type-opened _ _ _ _ (c .before .before .before .before .before .before .before .before .before .before .pre .1 .1 .0) (c .before .before .before .before .before .before .form-of .ensures)) (c .before .before .before .before .before .before .before .before .before .before .pre .1 .1 .0) (enum-meant (cc)), ready-same (ap (typeLeads _) (enum-tree (type-opened _ _ _ _ (c .before .before .before .before .before .before .before .before .before .before .pre .1 .1 .0) (c .before .before .before .before .before .before .form-of .ensures)) (c .before .before .before .before .before .before .before .before .before .before .pre .1 .1 .0) (enum-meant (cc)))) (c .before .before .before .before .before .before .before .before .before .before .pre .1 .1 .1))))
+definition-test-enum-definition-test-requires t c κs = (omega (arith, c .before .before .before .before .before .before .before .before .before .before .before .pre .0), (c .before .before .before .before .before .before .before .before .if1 .left, omega (arith, type-there _ _ _ (c .before .before .before .before .before .before .before .before .before .before .before .pre .1 .1 .0)), (c .before .before .before .before .before .before .before .before .before .before .before .pre .1 .0), (enum-reads (type-opened _ _ _ _ (c .before .before .before .before .before .before .before .before .before .before .before .pre .1 .1 .0) (c .before .before .before .before .before .before .form-of .ensures)) (c .before .before .before .before .before .before .before .before .before .before .before .pre .1 .1 .0) (enum-meant (cc)), ready-same (ap (typeLeads _) (enum-tree (type-opened _ _ _ _ (c .before .before .before .before .before .before .before .before .before .before .before .pre .1 .1 .0) (c .before .before .before .before .before .before .form-of .ensures)) (c .before .before .before .before .before .before .before .before .before .before .before .pre .1 .1 .0) (enum-meant (cc)))) (c .before .before .before .before .before .before .before .before .before .before .before .pre .1 .1 .1))))
 
 definition-test-enum-told-6 : Ask-definition-test definition-test-lts.Need-enum-told-6
 definition-test-enum-told-6 t c = search needs
 
 definition-test-add-is-constant : Ask-definition-test definition-test-lts.Need-add-is-constant
-definition-test-add-is-constant t c = omega (arith, c .before .before .before .before .before .before .before .before .before .pre .1 .1 .1 .small, type-there _ _ _ (c .before .before .before .before .before .before .before .before .before .pre .1 .1 .0))
+definition-test-add-is-constant t c = omega (arith, c .before .before .before .before .before .before .before .before .before .before .pre .1 .1 .1 .small, type-there _ _ _ (c .before .before .before .before .before .before .before .before .before .before .pre .1 .1 .0))
 
 definition-test-is-constant-requires : Ask-definition-test definition-test-lts.Need-is-constant-requires
-definition-test-is-constant-requires t c κs = (size-there (type-opened _ _ _ _ (c .before .before .before .before .before .before .before .before .before .pre .1 .1 .0) (c .before .before .before .before .before .form-of .ensures)) (c .before .before .before .before .before .before .before .before .before .pre .1 .1 .0) (array-meant (cc)), c .before .before .before .before .before .before .before .before .before .pre .1 .1 .1 .small)
+definition-test-is-constant-requires t c κs = (size-there (type-opened _ _ _ _ (c .before .before .before .before .before .before .before .before .before .before .pre .1 .1 .0) (c .before .before .before .before .before .form-of .ensures)) (c .before .before .before .before .before .before .before .before .before .before .pre .1 .1 .0) (array-meant (cc)), c .before .before .before .before .before .before .before .before .before .before .pre .1 .1 .1 .small)
 
 definition-test-enum-told-7 : Ask-definition-test definition-test-lts.Need-enum-told-7
 definition-test-enum-told-7 t c = search needs
 
 definition-test-returns-3 : Ask-definition-test definition-test-lts.Need-returns-3
-definition-test-returns-3 t c = (sym (primitive-named _ _ _ (c .before .before .before .before .before .before .before .before .before .pre .1 .1 .0) (type-opened _ _ _ _ (c .before .before .before .before .before .before .before .before .before .pre .1 .1 .0) (c .before .before .before .before .before .form-of .ensures)) (c .before .before .before .before .before .before .before .if1 .left) (primitive-meant (cc))), c .before .before .before .before .before .before .before .before .before .pre .1 .1 .1 .keeps)
+definition-test-returns-3 t c = (sym (primitive-named _ _ _ (c .before .before .before .before .before .before .before .before .before .before .pre .1 .1 .0) (type-opened _ _ _ _ (c .before .before .before .before .before .before .before .before .before .before .pre .1 .1 .0) (c .before .before .before .before .before .form-of .ensures)) (c .before .before .before .before .before .before .before .if1 .left) (primitive-meant (cc))), c .before .before .before .before .before .before .before .before .before .before .pre .1 .1 .1 .keeps)
 
 definition-test-returns-4 : Ask-definition-test definition-test-lts.Need-returns-4
-definition-test-returns-4 t c = (sym (typeRef-named _ _ _ (c .before .before .before .before .before .before .before .before .before .pre .1 .1 .0) (type-opened _ _ _ _ (c .before .before .before .before .before .before .before .before .before .pre .1 .1 .0) (c .before .before .before .before .before .form-of .ensures)) (c .before .before .before .before .before .before .before .if1 .left) (typeRef-meant (cc))), c .before .before .before .before .before .before .before .before .before .pre .1 .1 .1 .keeps)
+definition-test-returns-4 t c = (sym (typeRef-named _ _ _ (c .before .before .before .before .before .before .before .before .before .before .pre .1 .1 .0) (type-opened _ _ _ _ (c .before .before .before .before .before .before .before .before .before .before .pre .1 .1 .0) (c .before .before .before .before .before .form-of .ensures)) (c .before .before .before .before .before .before .before .if1 .left) (typeRef-meant (cc))), c .before .before .before .before .before .before .before .before .before .before .pre .1 .1 .1 .keeps)
 
 definition-test-returns-5 : Ask-definition-test definition-test-lts.Need-returns-5
-definition-test-returns-5 t c = (c .is-holds2 .ensures ∙ struct-named _ _ _ (c .before .before .before .before .before .before .before .before .before .before .before .before .pre .1 .1 .0) (type-opened _ _ _ _ (c .before .before .before .before .before .before .before .before .before .before .before .before .pre .1 .1 .0) (c .before .before .before .before .before .before .before .before .form-of .ensures)) (c .before .before .before .before .before .before .before .before .before .before .if1 .left) _ (c .before .inline-type-test2 .ensures .0) (struct-meant (cc)), c .before .inline-type-test2 .ensures .1)
+definition-test-returns-5 t c = (c .is-holds2 .ensures ∙ struct-named _ _ _ (c .before .before .before .before .before .before .before .before .before .before .before .before .before .pre .1 .1 .0) (type-opened _ _ _ _ (c .before .before .before .before .before .before .before .before .before .before .before .before .before .pre .1 .1 .0) (c .before .before .before .before .before .before .before .before .form-of .ensures)) (c .before .before .before .before .before .before .before .before .before .before .if1 .left) _ (c .before .inline-type-test2 .ensures .0) (struct-meant (cc)), c .before .inline-type-test2 .ensures .1)
 
 definition-test-returns-6 : Ask-definition-test definition-test-lts.Need-returns-6
-definition-test-returns-6 t c = (c .is-holds3 .ensures ∙ union-named _ _ _ (c .before .before .before .before .before .before .before .before .before .before .before .before .pre .1 .1 .0) (type-opened _ _ _ _ (c .before .before .before .before .before .before .before .before .before .before .before .before .pre .1 .1 .0) (c .before .before .before .before .before .before .before .before .form-of .ensures)) (c .before .before .before .before .before .before .before .before .before .before .if1 .left) _ (c .before .inline-type-test3 .ensures .0) (union-meant (cc)), c .before .inline-type-test3 .ensures .1)
+definition-test-returns-6 t c = (c .is-holds3 .ensures ∙ union-named _ _ _ (c .before .before .before .before .before .before .before .before .before .before .before .before .before .pre .1 .1 .0) (type-opened _ _ _ _ (c .before .before .before .before .before .before .before .before .before .before .before .before .before .pre .1 .1 .0) (c .before .before .before .before .before .before .before .before .form-of .ensures)) (c .before .before .before .before .before .before .before .before .before .before .if1 .left) _ (c .before .inline-type-test3 .ensures .0) (union-meant (cc)), c .before .inline-type-test3 .ensures .1)
 
 definition-test-returns-7 : Ask-definition-test definition-test-lts.Need-returns-7
-definition-test-returns-7 t c = (c .enum-definition-test .ensures .0 ∙ ap (namedHolds _ _) (sym (enum-tree (type-opened _ _ _ _ (c .before .before .before .before .before .before .before .before .before .before .before .pre .1 .1 .0) (c .before .before .before .before .before .before .before .form-of .ensures)) (c .before .before .before .before .before .before .before .before .before .before .before .pre .1 .1 .0) (enum-meant (cc)))), c .enum-definition-test .ensures .1)
+definition-test-returns-7 t c = (c .enum-definition-test .ensures .0 ∙ ap (namedHolds _ _) (sym (enum-tree (type-opened _ _ _ _ (c .before .before .before .before .before .before .before .before .before .before .before .before .pre .1 .1 .0) (c .before .before .before .before .before .before .before .form-of .ensures)) (c .before .before .before .before .before .before .before .before .before .before .before .before .pre .1 .1 .0) (enum-meant (cc)))), c .enum-definition-test .ensures .1)
 
 definition-test-returns-8 : Ask-definition-test definition-test-lts.Need-returns-8
-definition-test-returns-8 t c = (array-named _ _ _ (c .before .before .before .before .before .before .before .before .before .before .pre .1 .1 .0) (type-opened _ _ _ _ (c .before .before .before .before .before .before .before .before .before .before .pre .1 .1 .0) (c .before .before .before .before .before .before .form-of .ensures)) (c .before .before .before .before .before .before .before .before .if1 .left) _ (c .is-constant .ensures) (array-meant (cc)), c .before .before .before .before .before .before .before .before .before .before .pre .1 .1 .1 .keeps)
+definition-test-returns-8 t c = (array-named _ _ _ (c .before .before .before .before .before .before .before .before .before .before .before .pre .1 .1 .0) (type-opened _ _ _ _ (c .before .before .before .before .before .before .before .before .before .before .before .pre .1 .1 .0) (c .before .before .before .before .before .before .form-of .ensures)) (c .before .before .before .before .before .before .before .before .if1 .left) _ (c .is-constant .ensures) (array-meant (cc)), c .before .before .before .before .before .before .before .before .before .before .before .pre .1 .1 .1 .keeps)
 
 definition-test-returns-9 : Ask-definition-test definition-test-lts.Need-returns-9
-definition-test-returns-9 t c = (sym (sizeUnion-named _ _ _ (c .before .before .before .before .before .before .before .before .before .pre .1 .1 .0) (type-opened _ _ _ _ (c .before .before .before .before .before .before .before .before .before .pre .1 .1 .0) (c .before .before .before .before .before .form-of .ensures)) (c .before .before .before .before .before .before .before .if1 .left) (sizeUnion-meant (cc))), c .before .before .before .before .before .before .before .before .before .pre .1 .1 .1 .keeps)
+definition-test-returns-9 t c = (sym (sizeUnion-named _ _ _ (c .before .before .before .before .before .before .before .before .before .before .pre .1 .1 .0) (type-opened _ _ _ _ (c .before .before .before .before .before .before .before .before .before .before .pre .1 .1 .0) (c .before .before .before .before .before .form-of .ensures)) (c .before .before .before .before .before .before .before .if1 .left) (sizeUnion-meant (cc))), c .before .before .before .before .before .before .before .before .before .before .pre .1 .1 .1 .keeps)
 
 enum-definition-test-count-at-requires : Ask-enum-definition-test enum-definition-test-lts.Need-count-at-requires
-enum-definition-test-count-at-requires t c κs = c .before .pre .1 .1
+enum-definition-test-count-at-requires t c κs = c .before .before .pre .1 .1
 
 enum-definition-test-enum-known-head : Ask-enum-definition-test enum-definition-test-lts.Need-enum-known-head
 enum-definition-test-enum-known-head t c = search needs
@@ -410,7 +410,7 @@ enum-definition-test-enum-told : Ask-enum-definition-test enum-definition-test-l
 enum-definition-test-enum-told t c = search needs
 
 enum-definition-test-returns : Ask-enum-definition-test enum-definition-test-lts.Need-returns
-enum-definition-test-returns t c = absurd (enum-no _ _ _ (c .before .before .before .before .pre .1 .3 .0) _ (sym (c .enum-told .given .1) ∙ c .before .before .count-at .ensures))
+enum-definition-test-returns t c = absurd (enum-no _ _ _ (c .before .before .before .before .before .pre .1 .3 .0) _ (sym (c .enum-told .given .1) ∙ c .before .before .count-at .ensures))
 
 enum-definition-test-expr-at-requires : Ask-enum-definition-test enum-definition-test-lts.Need-expr-at-requires
 enum-definition-test-expr-at-requires t c κs = search needs
@@ -422,31 +422,31 @@ enum-definition-test-enum-told-2 : Ask-enum-definition-test enum-definition-test
 enum-definition-test-enum-told-2 t c = search needs
 
 enum-definition-test-returns-2 : Ask-enum-definition-test enum-definition-test-lts.Need-returns-2
-enum-definition-test-returns-2 t c = absurd (tag-no _ _ _ (c .before .before .before .before .before .before .before .before .pre .1 .3 .0) _ _ _ (sym (c .before .before .before .before .head .given .1) ∙ c .before .before .before .before .before .before .count-at .ensures) (sym (c .enum-told2 .given .1) ∙ c .before .before .expr-at .ensures))
+enum-definition-test-returns-2 t c = absurd (tag-no _ _ _ (c .before .before .before .before .before .before .before .before .before .pre .1 .3 .0) _ _ _ (sym (c .before .before .before .before .head .given .1) ∙ c .before .before .before .before .before .before .count-at .ensures) (sym (c .enum-told2 .given .1) ∙ c .before .before .expr-at .ensures))
 
 enum-definition-test-members-test-requires : Ask-enum-definition-test enum-definition-test-lts.Need-members-test-requires
-enum-definition-test-members-test-requires t c κs = (omega (arith, c .before .before .before .before .before .before .before .before .before .before .pre .0), ((c .before .before .before .before .before .before .before .before .before .before .pre .1 .2), (variants-read _ _ _ _ _ _ (sym (c .before .before .before .before .before .before .head .given .1) ∙ c .before .before .before .before .before .before .before .before .count-at .ensures) (c .before .before .before .before .before .before .before .before .before .before .pre .1 .3 .0) _ (sym (c .before .before .tag .given .1) ∙ c .before .before .before .before .expr-at .ensures), ready-same (enum-leads _ _ _ _ _ _ _ (sym (c .before .before .before .before .before .before .head .given .1) ∙ c .before .before .before .before .before .before .before .before .count-at .ensures) (c .before .before .before .before .before .before .before .before .before .before .pre .1 .3 .0) (sym (c .before .before .tag .given .1) ∙ c .before .before .before .before .expr-at .ensures)) (c .before .before .before .before .before .before .before .before .before .before .pre .1 .3 .1))))
+enum-definition-test-members-test-requires t c κs = (omega (arith, c .before .before .before .before .before .before .before .before .before .before .before .pre .0), ((c .before .before .before .before .before .before .before .before .before .before .before .pre .1 .2), (variants-read _ _ _ _ _ _ (sym (c .before .before .before .before .before .before .head .given .1) ∙ c .before .before .before .before .before .before .before .before .count-at .ensures) (c .before .before .before .before .before .before .before .before .before .before .before .pre .1 .3 .0) _ (sym (c .before .before .tag .given .1) ∙ c .before .before .before .before .expr-at .ensures), ready-same (enum-leads _ _ _ _ _ _ _ (sym (c .before .before .before .before .before .before .head .given .1) ∙ c .before .before .before .before .before .before .before .before .count-at .ensures) (c .before .before .before .before .before .before .before .before .before .before .before .pre .1 .3 .0) (sym (c .before .before .tag .given .1) ∙ c .before .before .before .before .expr-at .ensures)) (c .before .before .before .before .before .before .before .before .before .before .before .pre .1 .3 .1))))
 
 enum-definition-test-is-holds-requires : Ask-enum-definition-test enum-definition-test-lts.Need-is-holds-requires
 enum-definition-test-is-holds-requires t c κs = search needs
 
 enum-definition-test-returns-3 : Ask-enum-definition-test enum-definition-test-lts.Need-returns-3
-enum-definition-test-returns-3 t c = (sym (named-some _ _ _ _ _ _ (sym (c .before .before .before .before .before .before .before .before .before .head .given .1) ∙ c .before .before .before .before .before .before .before .before .before .before .before .count-at .ensures) (c .before .before .before .before .before .before .before .before .before .before .before .before .before .pre .1 .3 .0) (sym (c .before .before .before .before .before .tag .given .1) ∙ c .before .before .before .before .before .before .before .expr-at .ensures) (c .before .before .before .before .before .before .before .before .before .before .before .before .before .pre .1 .0) _ (c .before .before .members-test .ensures .0) (sym (c .before .is-holds .ensures) ∙ c .if1 .taken)), c .before .before .members-test .ensures .1)
+enum-definition-test-returns-3 t c = (sym (named-some _ _ _ _ _ _ (sym (c .before .before .before .before .before .before .before .before .before .head .given .1) ∙ c .before .before .before .before .before .before .before .before .before .before .before .count-at .ensures) (c .before .before .before .before .before .before .before .before .before .before .before .before .before .before .pre .1 .3 .0) (sym (c .before .before .before .before .before .tag .given .1) ∙ c .before .before .before .before .before .before .before .expr-at .ensures) (c .before .before .before .before .before .before .before .before .before .before .before .before .before .before .pre .1 .0) _ (c .before .before .members-test .ensures .0) (sym (c .before .is-holds .ensures) ∙ c .if1 .taken)), c .before .before .members-test .ensures .1)
 
 enum-definition-test-one-size-requires : Ask-enum-definition-test enum-definition-test-lts.Need-one-size-requires
-enum-definition-test-one-size-requires t c κs = variants-read _ _ _ _ _ _ (sym (c .before .before .before .before .before .before .before .before .before .head .given .1) ∙ c .before .before .before .before .before .before .before .before .before .before .before .count-at .ensures) (c .before .before .before .before .before .before .before .before .before .before .before .before .before .pre .1 .3 .0) _ (sym (c .before .before .before .before .before .tag .given .1) ∙ c .before .before .before .before .before .before .before .expr-at .ensures)
+enum-definition-test-one-size-requires t c κs = variants-read _ _ _ _ _ _ (sym (c .before .before .before .before .before .before .before .before .before .head .given .1) ∙ c .before .before .before .before .before .before .before .before .before .before .before .count-at .ensures) (c .before .before .before .before .before .before .before .before .before .before .before .before .before .before .pre .1 .3 .0) _ (sym (c .before .before .before .before .before .tag .given .1) ∙ c .before .before .before .before .before .before .before .expr-at .ensures)
 
 enum-definition-test-returns-4 : Ask-enum-definition-test enum-definition-test-lts.Need-returns-4
-enum-definition-test-returns-4 t c = (sym (named-one _ _ _ _ _ _ (sym (c .before .before .before .before .before .before .before .before .before .before .before .head .given .1) ∙ c .before .before .before .before .before .before .before .before .before .before .before .before .before .count-at .ensures) (c .before .before .before .before .before .before .before .before .before .before .before .before .before .before .before .pre .1 .3 .0) (sym (c .before .before .before .before .before .before .before .tag .given .1) ∙ c .before .before .before .before .before .before .before .before .before .expr-at .ensures) (c .before .before .before .before .before .before .before .before .before .before .before .before .before .before .before .pre .1 .0) _ (c .before .before .before .before .members-test .ensures .0) (sym (c .before .before .before .is-holds .ensures) ∙ c .before .before .if1 .left) (sym (c .if2 .taken) ∙ c .before .one-size .ensures)), c .before .before .before .before .members-test .ensures .1)
+enum-definition-test-returns-4 t c = (sym (named-one _ _ _ _ _ _ (sym (c .before .before .before .before .before .before .before .before .before .before .before .head .given .1) ∙ c .before .before .before .before .before .before .before .before .before .before .before .before .before .count-at .ensures) (c .before .before .before .before .before .before .before .before .before .before .before .before .before .before .before .before .pre .1 .3 .0) (sym (c .before .before .before .before .before .before .before .tag .given .1) ∙ c .before .before .before .before .before .before .before .before .before .expr-at .ensures) (c .before .before .before .before .before .before .before .before .before .before .before .before .before .before .before .before .pre .1 .0) _ (c .before .before .before .before .members-test .ensures .0) (sym (c .before .before .before .is-holds .ensures) ∙ c .before .before .if1 .left) (sym (c .if2 .taken) ∙ c .before .one-size .ensures)), c .before .before .before .before .members-test .ensures .1)
 
 enum-definition-test-is-constant-requires : Ask-enum-definition-test enum-definition-test-lts.Need-is-constant-requires
-enum-definition-test-is-constant-requires t c κs = (tag-reads _ _ _ _ _ _ (sym (c .before .before .before .before .before .before .before .before .before .before .before .head .given .1) ∙ c .before .before .before .before .before .before .before .before .before .before .before .before .before .count-at .ensures) (c .before .before .before .before .before .before .before .before .before .before .before .before .before .before .before .pre .1 .3 .0), c .before .before .before .before .before .before .before .before .before .before .before .before .before .before .before .pre .1 .3 .1 .small)
+enum-definition-test-is-constant-requires t c κs = (tag-reads _ _ _ _ _ _ (sym (c .before .before .before .before .before .before .before .before .before .before .before .head .given .1) ∙ c .before .before .before .before .before .before .before .before .before .before .before .before .before .count-at .ensures) (c .before .before .before .before .before .before .before .before .before .before .before .before .before .before .before .before .pre .1 .3 .0), c .before .before .before .before .before .before .before .before .before .before .before .before .before .before .before .before .pre .1 .3 .1 .small)
 
 enum-definition-test-returns-5 : Ask-enum-definition-test enum-definition-test-lts.Need-returns-5
-enum-definition-test-returns-5 t c = (named-tag _ _ _ _ _ _ (sym (c .before .before .before .before .before .before .before .before .before .before .before .before .head .given .1) ∙ c .before .before .before .before .before .before .before .before .before .before .before .before .before .before .count-at .ensures) (c .before .before .before .before .before .before .before .before .before .before .before .before .before .before .before .before .pre .1 .3 .0) (sym (c .before .before .before .before .before .before .before .before .tag .given .1) ∙ c .before .before .before .before .before .before .before .before .before .before .expr-at .ensures) (c .before .before .before .before .before .before .before .before .before .before .before .before .before .before .before .before .pre .1 .0) _ (c .before .before .before .before .before .members-test .ensures .0) (sym (c .before .before .before .before .is-holds .ensures) ∙ c .before .before .before .if1 .left) (sym (c .before .if2 .left) ∙ c .before .before .one-size .ensures) _ (c .is-constant .ensures), c .before .before .before .before .before .members-test .ensures .1)
+enum-definition-test-returns-5 t c = (named-tag _ _ _ _ _ _ (sym (c .before .before .before .before .before .before .before .before .before .before .before .before .head .given .1) ∙ c .before .before .before .before .before .before .before .before .before .before .before .before .before .before .count-at .ensures) (c .before .before .before .before .before .before .before .before .before .before .before .before .before .before .before .before .before .pre .1 .3 .0) (sym (c .before .before .before .before .before .before .before .before .tag .given .1) ∙ c .before .before .before .before .before .before .before .before .before .before .expr-at .ensures) (c .before .before .before .before .before .before .before .before .before .before .before .before .before .before .before .before .before .pre .1 .0) _ (c .before .before .before .before .before .members-test .ensures .0) (sym (c .before .before .before .before .is-holds .ensures) ∙ c .before .before .before .if1 .left) (sym (c .before .if2 .left) ∙ c .before .before .one-size .ensures) _ (c .is-constant .ensures), c .before .before .before .before .before .members-test .ensures .1)
 
 enum-test-count-at-requires : Ask-enum-test enum-test-lts.Need-count-at-requires
-enum-test-count-at-requires t c κs = c .before .pre .1 .0
+enum-test-count-at-requires t c κs = c .before .before .pre .1 .0
 
 enum-test-enum-known-head : Ask-enum-test enum-test-lts.Need-enum-known-head
 enum-test-enum-known-head t c = search needs
@@ -455,7 +455,7 @@ enum-test-enum-told : Ask-enum-test enum-test-lts.Need-enum-told
 enum-test-enum-told t c = search needs
 
 enum-test-returns : Ask-enum-test enum-test-lts.Need-returns
-enum-test-returns t c = absurd (enum-no _ _ _ (c .before .before .before .before .pre .1 .2 .0) _ (sym (c .enum-told .given .1) ∙ c .before .before .count-at .ensures))
+enum-test-returns t c = absurd (enum-no _ _ _ (c .before .before .before .before .before .pre .1 .2 .0) _ (sym (c .enum-told .given .1) ∙ c .before .before .count-at .ensures))
 
 enum-test-expr-at-requires : Ask-enum-test enum-test-lts.Need-expr-at-requires
 enum-test-expr-at-requires t c κs = search needs
@@ -467,40 +467,40 @@ enum-test-enum-told-2 : Ask-enum-test enum-test-lts.Need-enum-told-2
 enum-test-enum-told-2 t c = search needs
 
 enum-test-returns-2 : Ask-enum-test enum-test-lts.Need-returns-2
-enum-test-returns-2 t c = absurd (tag-no _ _ _ (c .before .before .before .before .before .before .before .before .pre .1 .2 .0) _ _ _ (sym (c .before .before .before .before .head .given .1) ∙ c .before .before .before .before .before .before .count-at .ensures) (sym (c .enum-told2 .given .1) ∙ c .before .before .expr-at .ensures))
+enum-test-returns-2 t c = absurd (tag-no _ _ _ (c .before .before .before .before .before .before .before .before .before .pre .1 .2 .0) _ _ _ (sym (c .before .before .before .before .head .given .1) ∙ c .before .before .before .before .before .before .count-at .ensures) (sym (c .enum-told2 .given .1) ∙ c .before .before .expr-at .ensures))
 
 enum-test-expr-counts-requires : Ask-enum-test enum-test-lts.Need-expr-counts-requires
-enum-test-expr-counts-requires t c κs = (c .before .before .before .before .before .before .before .before .before .pre .1 .2 .1 .small, tag-reads _ _ _ _ _ _ (sym (c .before .before .before .before .before .head .given .1) ∙ c .before .before .before .before .before .before .before .count-at .ensures) (c .before .before .before .before .before .before .before .before .before .pre .1 .2 .0))
+enum-test-expr-counts-requires t c κs = (c .before .before .before .before .before .before .before .before .before .before .pre .1 .2 .1 .small, tag-reads _ _ _ _ _ _ (sym (c .before .before .before .before .before .head .given .1) ∙ c .before .before .before .before .before .before .before .count-at .ensures) (c .before .before .before .before .before .before .before .before .before .before .pre .1 .2 .0))
 
 enum-test-returns-3 : Ask-enum-test enum-test-lts.Need-returns-3
-enum-test-returns-3 t c = (sym (enum-counts _ _ _ _ _ _ _ (sym (c .before .before .before .before .before .before .before .head .given .1) ∙ c .before .before .before .before .before .before .before .before .before .count-at .ensures) (c .before .before .before .before .before .before .before .before .before .before .before .pre .1 .2 .0) (sym (c .before .before .before .tag .given .1) ∙ c .before .before .before .before .before .expr-at .ensures) (sym (c .if1 .taken) ∙ c .before .expr-counts .ensures)), c .before .before .before .before .before .before .before .before .before .before .before .pre .1 .2 .1 .keeps)
+enum-test-returns-3 t c = (sym (enum-counts _ _ _ _ _ _ _ (sym (c .before .before .before .before .before .before .before .head .given .1) ∙ c .before .before .before .before .before .before .before .before .before .count-at .ensures) (c .before .before .before .before .before .before .before .before .before .before .before .before .pre .1 .2 .0) (sym (c .before .before .before .tag .given .1) ∙ c .before .before .before .before .before .expr-at .ensures) (sym (c .if1 .taken) ∙ c .before .expr-counts .ensures)), c .before .before .before .before .before .before .before .before .before .before .before .before .pre .1 .2 .1 .keeps)
 
 enum-test-members-test-requires : Ask-enum-test enum-test-lts.Need-members-test-requires
-enum-test-members-test-requires t c κs = (omega (arith, c .before .before .before .before .before .before .before .before .before .before .before .before .pre .0), ((c .before .before .before .before .before .before .before .before .before .before .before .before .pre .1 .1), (variants-read _ _ _ _ _ _ (sym (c .before .before .before .before .before .before .before .before .head .given .1) ∙ c .before .before .before .before .before .before .before .before .before .before .count-at .ensures) (c .before .before .before .before .before .before .before .before .before .before .before .before .pre .1 .2 .0) _ (sym (c .before .before .before .before .tag .given .1) ∙ c .before .before .before .before .before .before .expr-at .ensures), ready-same (enum-leads _ _ _ _ _ _ _ (sym (c .before .before .before .before .before .before .before .before .head .given .1) ∙ c .before .before .before .before .before .before .before .before .before .before .count-at .ensures) (c .before .before .before .before .before .before .before .before .before .before .before .before .pre .1 .2 .0) (sym (c .before .before .before .before .tag .given .1) ∙ c .before .before .before .before .before .before .expr-at .ensures)) (c .before .before .before .before .before .before .before .before .before .before .before .before .pre .1 .2 .1))))
+enum-test-members-test-requires t c κs = (omega (arith, c .before .before .before .before .before .before .before .before .before .before .before .before .before .pre .0), ((c .before .before .before .before .before .before .before .before .before .before .before .before .before .pre .1 .1), (variants-read _ _ _ _ _ _ (sym (c .before .before .before .before .before .before .before .before .head .given .1) ∙ c .before .before .before .before .before .before .before .before .before .before .count-at .ensures) (c .before .before .before .before .before .before .before .before .before .before .before .before .before .pre .1 .2 .0) _ (sym (c .before .before .before .before .tag .given .1) ∙ c .before .before .before .before .before .before .expr-at .ensures), ready-same (enum-leads _ _ _ _ _ _ _ (sym (c .before .before .before .before .before .before .before .before .head .given .1) ∙ c .before .before .before .before .before .before .before .before .before .before .count-at .ensures) (c .before .before .before .before .before .before .before .before .before .before .before .before .before .pre .1 .2 .0) (sym (c .before .before .before .before .tag .given .1) ∙ c .before .before .before .before .before .before .expr-at .ensures)) (c .before .before .before .before .before .before .before .before .before .before .before .before .before .pre .1 .2 .1))))
 
 enum-test-returns-4 : Ask-enum-test enum-test-lts.Need-returns-4
-enum-test-returns-4 t c = (c .members-test .ensures .0 ∙ enum-tested _ _ _ _ _ _ _ (sym (c .before .before .before .before .before .before .before .before .before .head .given .1) ∙ c .before .before .before .before .before .before .before .before .before .before .before .count-at .ensures) (c .before .before .before .before .before .before .before .before .before .before .before .before .before .pre .1 .2 .0) (sym (c .before .before .before .before .before .tag .given .1) ∙ c .before .before .before .before .before .before .before .expr-at .ensures) (sym (c .before .before .if1 .left) ∙ c .before .before .before .expr-counts .ensures), c .members-test .ensures .1)
+enum-test-returns-4 t c = (c .members-test .ensures .0 ∙ enum-tested _ _ _ _ _ _ _ (sym (c .before .before .before .before .before .before .before .before .before .head .given .1) ∙ c .before .before .before .before .before .before .before .before .before .before .before .count-at .ensures) (c .before .before .before .before .before .before .before .before .before .before .before .before .before .before .pre .1 .2 .0) (sym (c .before .before .before .before .before .tag .given .1) ∙ c .before .before .before .before .before .before .before .expr-at .ensures) (sym (c .before .before .if1 .left) ∙ c .before .before .before .expr-counts .ensures), c .members-test .ensures .1)
 
 group-test-count-at-requires : Ask-group-test group-test-lts.Need-count-at-requires
-group-test-count-at-requires t c κs = c .before .pre .1 .0
+group-test-count-at-requires t c κs = c .before .before .pre .1 .0
 
 group-test-enum-known-head : Ask-group-test group-test-lts.Need-enum-known-head
 group-test-enum-known-head t c = search needs
 
 group-test-members-test-requires : Ask-group-test group-test-lts.Need-members-test-requires
-group-test-members-test-requires t c κs = (omega (arith, c .before .before .before .before .before .before .pre .0), ((c .before .before .before .before .before .before .pre .1 .1), (group-reads _ _ _ _ _ _ (sym (c .before .before .head .given .1) ∙ c .before .before .before .before .count-at .ensures) (c .before .before .before .before .before .before .pre .1 .2 .0), ready-same (ap (membersLead _) (group-value _ _ _ _ _ _ (sym (c .before .before .head .given .1) ∙ c .before .before .before .before .count-at .ensures) (c .before .before .before .before .before .before .pre .1 .2 .0) zeroGroup)) (c .before .before .before .before .before .before .pre .1 .2 .1))))
+group-test-members-test-requires t c κs = (omega (arith, c .before .before .before .before .before .before .before .pre .0), ((c .before .before .before .before .before .before .before .pre .1 .1), (group-reads _ _ _ _ _ _ (sym (c .before .before .head .given .1) ∙ c .before .before .before .before .count-at .ensures) (c .before .before .before .before .before .before .before .pre .1 .2 .0), ready-same (ap (membersLead _) (group-value _ _ _ _ _ _ (sym (c .before .before .head .given .1) ∙ c .before .before .before .before .count-at .ensures) (c .before .before .before .before .before .before .before .pre .1 .2 .0) zeroGroup)) (c .before .before .before .before .before .before .before .pre .1 .2 .1))))
 
 group-test-enum-told : Ask-group-test group-test-lts.Need-enum-told
 group-test-enum-told t c = search needs
 
 group-test-returns : Ask-group-test group-test-lts.Need-returns
-group-test-returns t c = (c .members-test .ensures .0 ∙ group-tested _ _ _ _ _ _ _ (sym (c .before .before .before .head .given .1) ∙ c .before .before .before .before .before .count-at .ensures) (c .before .before .before .before .before .before .before .pre .1 .2 .0), c .members-test .ensures .1)
+group-test-returns t c = (c .members-test .ensures .0 ∙ group-tested _ _ _ _ _ _ _ (sym (c .before .before .before .head .given .1) ∙ c .before .before .before .before .before .count-at .ensures) (c .before .before .before .before .before .before .before .before .pre .1 .2 .0), c .members-test .ensures .1)
 
 group-test-returns-2 : Ask-group-test group-test-lts.Need-returns-2
-group-test-returns-2 t c = absurd (group-no _ _ _ _ _ (c .before .before .before .before .pre .1 .2 .0) (sym (c .enum-told .given .1) ∙ c .before .before .count-at .ensures))
+group-test-returns-2 t c = absurd (group-no _ _ _ _ _ (c .before .before .before .before .before .pre .1 .2 .0) (sym (c .enum-told .given .1) ∙ c .before .before .count-at .ensures))
 
 inline-type-test-shared-slice-read-kind : Ask-inline-type-test inline-type-test-lts.Need-shared-slice-read-kind
-inline-type-test-shared-slice-read-kind t c = type-there _ _ _ (c .before .before .pre .1 .1 .0)
+inline-type-test-shared-slice-read-kind t c = type-there _ _ _ (c .before .before .before .pre .1 .1 .0)
 
 inline-type-test-form-of-requires : Ask-inline-type-test inline-type-test-lts.Need-form-of-requires
 inline-type-test-form-of-requires t c κs = search needs
@@ -509,10 +509,10 @@ inline-type-test-enum-known-form : Ask-inline-type-test inline-type-test-lts.Nee
 inline-type-test-enum-known-form t c = search needs
 
 inline-type-test-returns : Ask-inline-type-test inline-type-test-lts.Need-returns
-inline-type-test-returns t c = absurd (no-other (type-opened _ _ _ _ (c .before .before .before .before .pre .1 .1 .0) (c .before .form-of .ensures)) (c .before .before .before .before .pre .1 .1 .0) (not-type _ (c .match .keys2)))
+inline-type-test-returns t c = absurd (no-other (type-opened _ _ _ _ (c .before .before .before .before .before .pre .1 .1 .0) (c .before .form-of .ensures)) (c .before .before .before .before .before .pre .1 .1 .0) (not-type _ (c .match .keys2)))
 
 inline-type-test-add-body : Ask-inline-type-test inline-type-test-lts.Need-add-body
-inline-type-test-add-body t c = omega (arith, type-there _ _ _ (c .before .before .before .before .before .before .pre .1 .1 .0))
+inline-type-test-add-body t c = omega (arith, type-there _ _ _ (c .before .before .before .before .before .before .before .pre .1 .1 .0))
 
 inline-type-test-enum-told : Ask-inline-type-test inline-type-test-lts.Need-enum-told
 inline-type-test-enum-told t c = search needs
@@ -521,76 +521,76 @@ inline-type-test-enum-told-2 : Ask-inline-type-test inline-type-test-lts.Need-en
 inline-type-test-enum-told-2 t c = search needs
 
 inline-type-test-reference-test-requires : Ask-inline-type-test inline-type-test-lts.Need-reference-test-requires
-inline-type-test-reference-test-requires t c κs = (omega (arith, type-deep _ _ _ (c .before .before .before .before .before .before .before .before .before .pre .1 .1 .0), c .before .before .before .before .before .before .before .before .before .pre .0), (typeRef-there (type-opened _ _ _ _ (c .before .before .before .before .before .before .before .before .before .pre .1 .1 .0) (c .before .before .before .before .before .before .form-of .ensures)) (c .before .before .before .before .before .before .before .before .before .pre .1 .1 .0) (typeRef-meant (cc)), (c .before .before .before .before .before .before .before .before .before .pre .1 .0), (tt, ready-same (typeRef-leads _ (type-opened _ _ _ _ (c .before .before .before .before .before .before .before .before .before .pre .1 .1 .0) (c .before .before .before .before .before .before .form-of .ensures)) (c .before .before .before .before .before .before .before .before .before .pre .1 .1 .0) (typeRef-meant (cc))) (c .before .before .before .before .before .before .before .before .before .pre .1 .1 .1))))
+inline-type-test-reference-test-requires t c κs = (omega (arith, type-deep _ _ _ (c .before .before .before .before .before .before .before .before .before .before .pre .1 .1 .0), c .before .before .before .before .before .before .before .before .before .before .pre .0), (typeRef-there (type-opened _ _ _ _ (c .before .before .before .before .before .before .before .before .before .before .pre .1 .1 .0) (c .before .before .before .before .before .before .form-of .ensures)) (c .before .before .before .before .before .before .before .before .before .before .pre .1 .1 .0) (typeRef-meant (cc)), (c .before .before .before .before .before .before .before .before .before .before .pre .1 .0), (tt, ready-same (typeRef-leads _ (type-opened _ _ _ _ (c .before .before .before .before .before .before .before .before .before .before .pre .1 .1 .0) (c .before .before .before .before .before .before .form-of .ensures)) (c .before .before .before .before .before .before .before .before .before .before .pre .1 .1 .0) (typeRef-meant (cc))) (c .before .before .before .before .before .before .before .before .before .before .pre .1 .1 .1))))
 
 inline-type-test-enum-told-3 : Ask-inline-type-test inline-type-test-lts.Need-enum-told-3
 inline-type-test-enum-told-3 t c = search needs
 
 inline-type-test-sub-group-test : Ask-inline-type-test inline-type-test-lts.Need-sub-group-test
-inline-type-test-sub-group-test t c = omega (arith, type-deep _ _ _ (c .before .before .before .before .before .before .before .before .before .pre .1 .1 .0))
+inline-type-test-sub-group-test t c = omega (arith, type-deep _ _ _ (c .before .before .before .before .before .before .before .before .before .before .pre .1 .1 .0))
 
 inline-type-test-group-test-requires : Ask-inline-type-test inline-type-test-lts.Need-group-test-requires
-inline-type-test-group-test-requires t c κs = (omega (arith, type-deep _ _ _ (c .before .before .before .before .before .before .before .before .before .pre .1 .1 .0), c .before .before .before .before .before .before .before .before .before .pre .0), (omega (arith, type-there _ _ _ (c .before .before .before .before .before .before .before .before .before .pre .1 .1 .0)), (c .before .before .before .before .before .before .before .before .before .pre .1 .0), (struct-reads (type-opened _ _ _ _ (c .before .before .before .before .before .before .before .before .before .pre .1 .1 .0) (c .before .before .before .before .before .before .form-of .ensures)) (c .before .before .before .before .before .before .before .before .before .pre .1 .1 .0) (struct-meant (cc)), ready-same (struct-leads _ (type-opened _ _ _ _ (c .before .before .before .before .before .before .before .before .before .pre .1 .1 .0) (c .before .before .before .before .before .before .form-of .ensures)) (c .before .before .before .before .before .before .before .before .before .pre .1 .1 .0) (struct-meant (cc))) (c .before .before .before .before .before .before .before .before .before .pre .1 .1 .1))))
+inline-type-test-group-test-requires t c κs = (omega (arith, type-deep _ _ _ (c .before .before .before .before .before .before .before .before .before .before .pre .1 .1 .0), c .before .before .before .before .before .before .before .before .before .before .pre .0), (omega (arith, type-there _ _ _ (c .before .before .before .before .before .before .before .before .before .before .pre .1 .1 .0)), (c .before .before .before .before .before .before .before .before .before .before .pre .1 .0), (struct-reads (type-opened _ _ _ _ (c .before .before .before .before .before .before .before .before .before .before .pre .1 .1 .0) (c .before .before .before .before .before .before .form-of .ensures)) (c .before .before .before .before .before .before .before .before .before .before .pre .1 .1 .0) (struct-meant (cc)), ready-same (struct-leads _ (type-opened _ _ _ _ (c .before .before .before .before .before .before .before .before .before .before .pre .1 .1 .0) (c .before .before .before .before .before .before .form-of .ensures)) (c .before .before .before .before .before .before .before .before .before .before .pre .1 .1 .0) (struct-meant (cc))) (c .before .before .before .before .before .before .before .before .before .before .pre .1 .1 .1))))
 
 inline-type-test-enum-told-4 : Ask-inline-type-test inline-type-test-lts.Need-enum-told-4
 inline-type-test-enum-told-4 t c = search needs
 
 inline-type-test-sub-group-test-2 : Ask-inline-type-test inline-type-test-lts.Need-sub-group-test-2
-inline-type-test-sub-group-test-2 t c = omega (arith, type-deep _ _ _ (c .before .before .before .before .before .before .before .before .before .pre .1 .1 .0))
+inline-type-test-sub-group-test-2 t c = omega (arith, type-deep _ _ _ (c .before .before .before .before .before .before .before .before .before .before .pre .1 .1 .0))
 
 inline-type-test-group-test-requires-2 : Ask-inline-type-test inline-type-test-lts.Need-group-test-requires-2
-inline-type-test-group-test-requires-2 t c κs = (omega (arith, type-deep _ _ _ (c .before .before .before .before .before .before .before .before .before .pre .1 .1 .0), c .before .before .before .before .before .before .before .before .before .pre .0), (omega (arith, type-there _ _ _ (c .before .before .before .before .before .before .before .before .before .pre .1 .1 .0)), (c .before .before .before .before .before .before .before .before .before .pre .1 .0), (union-reads (type-opened _ _ _ _ (c .before .before .before .before .before .before .before .before .before .pre .1 .1 .0) (c .before .before .before .before .before .before .form-of .ensures)) (c .before .before .before .before .before .before .before .before .before .pre .1 .1 .0) (union-meant (cc)), ready-same (union-leads _ (type-opened _ _ _ _ (c .before .before .before .before .before .before .before .before .before .pre .1 .1 .0) (c .before .before .before .before .before .before .form-of .ensures)) (c .before .before .before .before .before .before .before .before .before .pre .1 .1 .0) (union-meant (cc))) (c .before .before .before .before .before .before .before .before .before .pre .1 .1 .1))))
+inline-type-test-group-test-requires-2 t c κs = (omega (arith, type-deep _ _ _ (c .before .before .before .before .before .before .before .before .before .before .pre .1 .1 .0), c .before .before .before .before .before .before .before .before .before .before .pre .0), (omega (arith, type-there _ _ _ (c .before .before .before .before .before .before .before .before .before .before .pre .1 .1 .0)), (c .before .before .before .before .before .before .before .before .before .before .pre .1 .0), (union-reads (type-opened _ _ _ _ (c .before .before .before .before .before .before .before .before .before .before .pre .1 .1 .0) (c .before .before .before .before .before .before .form-of .ensures)) (c .before .before .before .before .before .before .before .before .before .before .pre .1 .1 .0) (union-meant (cc)), ready-same (union-leads _ (type-opened _ _ _ _ (c .before .before .before .before .before .before .before .before .before .before .pre .1 .1 .0) (c .before .before .before .before .before .before .form-of .ensures)) (c .before .before .before .before .before .before .before .before .before .before .pre .1 .1 .0) (union-meant (cc))) (c .before .before .before .before .before .before .before .before .before .before .pre .1 .1 .1))))
 
 inline-type-test-enum-told-5 : Ask-inline-type-test inline-type-test-lts.Need-enum-told-5
 inline-type-test-enum-told-5 t c = search needs
 
 inline-type-test-sub-enum-test : Ask-inline-type-test inline-type-test-lts.Need-sub-enum-test
-inline-type-test-sub-enum-test t c = omega (arith, type-deep _ _ _ (c .before .before .before .before .before .before .before .before .before .pre .1 .1 .0))
+inline-type-test-sub-enum-test t c = omega (arith, type-deep _ _ _ (c .before .before .before .before .before .before .before .before .before .before .pre .1 .1 .0))
 
 inline-type-test-enum-test-requires : Ask-inline-type-test inline-type-test-lts.Need-enum-test-requires
-inline-type-test-enum-test-requires t c κs = (omega (arith, type-deep _ _ _ (c .before .before .before .before .before .before .before .before .before .pre .1 .1 .0), c .before .before .before .before .before .before .before .before .before .pre .0), (omega (arith, type-there _ _ _ (c .before .before .before .before .before .before .before .before .before .pre .1 .1 .0)), (c .before .before .before .before .before .before .before .before .before .pre .1 .0), (enum-reads (type-opened _ _ _ _ (c .before .before .before .before .before .before .before .before .before .pre .1 .1 .0) (c .before .before .before .before .before .before .form-of .ensures)) (c .before .before .before .before .before .before .before .before .before .pre .1 .1 .0) (enum-meant (cc)), ready-same (ap (typeLeads _) (enum-tree (type-opened _ _ _ _ (c .before .before .before .before .before .before .before .before .before .pre .1 .1 .0) (c .before .before .before .before .before .before .form-of .ensures)) (c .before .before .before .before .before .before .before .before .before .pre .1 .1 .0) (enum-meant (cc)))) (c .before .before .before .before .before .before .before .before .before .pre .1 .1 .1))))
+inline-type-test-enum-test-requires t c κs = (omega (arith, type-deep _ _ _ (c .before .before .before .before .before .before .before .before .before .before .pre .1 .1 .0), c .before .before .before .before .before .before .before .before .before .before .pre .0), (omega (arith, type-there _ _ _ (c .before .before .before .before .before .before .before .before .before .before .pre .1 .1 .0)), (c .before .before .before .before .before .before .before .before .before .before .pre .1 .0), (enum-reads (type-opened _ _ _ _ (c .before .before .before .before .before .before .before .before .before .before .pre .1 .1 .0) (c .before .before .before .before .before .before .form-of .ensures)) (c .before .before .before .before .before .before .before .before .before .before .pre .1 .1 .0) (enum-meant (cc)), ready-same (ap (typeLeads _) (enum-tree (type-opened _ _ _ _ (c .before .before .before .before .before .before .before .before .before .before .pre .1 .1 .0) (c .before .before .before .before .before .before .form-of .ensures)) (c .before .before .before .before .before .before .before .before .before .before .pre .1 .1 .0) (enum-meant (cc)))) (c .before .before .before .before .before .before .before .before .before .before .pre .1 .1 .1))))
 
 inline-type-test-enum-told-6 : Ask-inline-type-test inline-type-test-lts.Need-enum-told-6
 inline-type-test-enum-told-6 t c = search needs
 
 inline-type-test-sub-array-test : Ask-inline-type-test inline-type-test-lts.Need-sub-array-test
-inline-type-test-sub-array-test t c = omega (arith, type-deep _ _ _ (c .before .before .before .before .before .before .before .before .before .pre .1 .1 .0))
+inline-type-test-sub-array-test t c = omega (arith, type-deep _ _ _ (c .before .before .before .before .before .before .before .before .before .before .pre .1 .1 .0))
 
 inline-type-test-array-test-requires : Ask-inline-type-test inline-type-test-lts.Need-array-test-requires
-inline-type-test-array-test-requires t c κs = (omega (arith, type-deep _ _ _ (c .before .before .before .before .before .before .before .before .before .pre .1 .1 .0), c .before .before .before .before .before .before .before .before .before .pre .0), (omega (arith, type-there _ _ _ (c .before .before .before .before .before .before .before .before .before .pre .1 .1 .0)), (c .before .before .before .before .before .before .before .before .before .pre .1 .0), (array-reads (type-opened _ _ _ _ (c .before .before .before .before .before .before .before .before .before .pre .1 .1 .0) (c .before .before .before .before .before .before .form-of .ensures)) (c .before .before .before .before .before .before .before .before .before .pre .1 .1 .0) (array-meant (cc)), ready-same (ap (typeLeads _) (array-tree (type-opened _ _ _ _ (c .before .before .before .before .before .before .before .before .before .pre .1 .1 .0) (c .before .before .before .before .before .before .form-of .ensures)) (c .before .before .before .before .before .before .before .before .before .pre .1 .1 .0) (array-meant (cc)))) (c .before .before .before .before .before .before .before .before .before .pre .1 .1 .1))))
+inline-type-test-array-test-requires t c κs = (omega (arith, type-deep _ _ _ (c .before .before .before .before .before .before .before .before .before .before .pre .1 .1 .0), c .before .before .before .before .before .before .before .before .before .before .pre .0), (omega (arith, type-there _ _ _ (c .before .before .before .before .before .before .before .before .before .before .pre .1 .1 .0)), (c .before .before .before .before .before .before .before .before .before .before .pre .1 .0), (array-reads (type-opened _ _ _ _ (c .before .before .before .before .before .before .before .before .before .before .pre .1 .1 .0) (c .before .before .before .before .before .before .form-of .ensures)) (c .before .before .before .before .before .before .before .before .before .before .pre .1 .1 .0) (array-meant (cc)), ready-same (ap (typeLeads _) (array-tree (type-opened _ _ _ _ (c .before .before .before .before .before .before .before .before .before .before .pre .1 .1 .0) (c .before .before .before .before .before .before .form-of .ensures)) (c .before .before .before .before .before .before .before .before .before .before .pre .1 .1 .0) (array-meant (cc)))) (c .before .before .before .before .before .before .before .before .before .before .pre .1 .1 .1))))
 
 inline-type-test-enum-told-7 : Ask-inline-type-test inline-type-test-lts.Need-enum-told-7
 inline-type-test-enum-told-7 t c = search needs
 
 inline-type-test-sub-group-test-3 : Ask-inline-type-test inline-type-test-lts.Need-sub-group-test-3
-inline-type-test-sub-group-test-3 t c = omega (arith, type-deep _ _ _ (c .before .before .before .before .before .before .before .before .before .before .pre .1 .1 .0))
+inline-type-test-sub-group-test-3 t c = omega (arith, type-deep _ _ _ (c .before .before .before .before .before .before .before .before .before .before .before .pre .1 .1 .0))
 
 inline-type-test-group-test-requires-3 : Ask-inline-type-test inline-type-test-lts.Need-group-test-requires-3
-inline-type-test-group-test-requires-3 t c κs = (omega (arith, type-deep _ _ _ (c .before .before .before .before .before .before .before .before .before .before .pre .1 .1 .0), c .before .before .before .before .before .before .before .before .before .before .pre .0), (omega (arith, type-there _ _ _ (c .before .before .before .before .before .before .before .before .before .before .pre .1 .1 .0)), (c .before .before .before .before .before .before .before .before .before .before .pre .1 .0), (sizeUnion-reads (type-opened _ _ _ _ (c .before .before .before .before .before .before .before .before .before .before .pre .1 .1 .0) (c .before .before .before .before .before .before .before .form-of .ensures)) (c .before .before .before .before .before .before .before .before .before .before .pre .1 .1 .0) (sizeUnion-meant (cc)), ready-same (sizeUnion-leads _ (type-opened _ _ _ _ (c .before .before .before .before .before .before .before .before .before .before .pre .1 .1 .0) (c .before .before .before .before .before .before .before .form-of .ensures)) (c .before .before .before .before .before .before .before .before .before .before .pre .1 .1 .0) (sizeUnion-meant (cc))) (c .before .before .before .before .before .before .before .before .before .before .pre .1 .1 .1))))
+inline-type-test-group-test-requires-3 t c κs = (omega (arith, type-deep _ _ _ (c .before .before .before .before .before .before .before .before .before .before .before .pre .1 .1 .0), c .before .before .before .before .before .before .before .before .before .before .before .pre .0), (omega (arith, type-there _ _ _ (c .before .before .before .before .before .before .before .before .before .before .before .pre .1 .1 .0)), (c .before .before .before .before .before .before .before .before .before .before .before .pre .1 .0), (sizeUnion-reads (type-opened _ _ _ _ (c .before .before .before .before .before .before .before .before .before .before .before .pre .1 .1 .0) (c .before .before .before .before .before .before .before .form-of .ensures)) (c .before .before .before .before .before .before .before .before .before .before .before .pre .1 .1 .0) (sizeUnion-meant (cc)), ready-same (sizeUnion-leads _ (type-opened _ _ _ _ (c .before .before .before .before .before .before .before .before .before .before .before .pre .1 .1 .0) (c .before .before .before .before .before .before .before .form-of .ensures)) (c .before .before .before .before .before .before .before .before .before .before .before .pre .1 .1 .0) (sizeUnion-meant (cc))) (c .before .before .before .before .before .before .before .before .before .before .before .pre .1 .1 .1))))
 
 inline-type-test-returns-2 : Ask-inline-type-test inline-type-test-lts.Need-returns-2
-inline-type-test-returns-2 t c = (c .group-test3 .ensures .0 ∙ sizeUnion-tested _ _ (type-opened _ _ _ _ (c .before .before .before .before .before .before .before .before .before .before .before .pre .1 .1 .0) (c .before .before .before .before .before .before .before .before .form-of .ensures)) (c .before .before .before .before .before .before .before .before .before .before .before .pre .1 .1 .0) (sizeUnion-meant (cc)) (c .before .before .if1 .taken), c .group-test3 .ensures .1)
+inline-type-test-returns-2 t c = (c .group-test3 .ensures .0 ∙ sizeUnion-tested _ _ (type-opened _ _ _ _ (c .before .before .before .before .before .before .before .before .before .before .before .before .pre .1 .1 .0) (c .before .before .before .before .before .before .before .before .form-of .ensures)) (c .before .before .before .before .before .before .before .before .before .before .before .before .pre .1 .1 .0) (sizeUnion-meant (cc)) (c .before .before .if1 .taken), c .group-test3 .ensures .1)
 
 inline-type-test-returns-3 : Ask-inline-type-test inline-type-test-lts.Need-returns-3
-inline-type-test-returns-3 t c = (sym (primitive-tested _ _ (type-opened _ _ _ _ (c .before .before .before .before .before .before .before .before .pre .1 .1 .0) (c .before .before .before .before .before .form-of .ensures)) (c .before .before .before .before .before .before .before .before .pre .1 .1 .0) (primitive-meant (cc))), c .before .before .before .before .before .before .before .before .pre .1 .1 .1 .keeps)
+inline-type-test-returns-3 t c = (sym (primitive-tested _ _ (type-opened _ _ _ _ (c .before .before .before .before .before .before .before .before .before .pre .1 .1 .0) (c .before .before .before .before .before .form-of .ensures)) (c .before .before .before .before .before .before .before .before .before .pre .1 .1 .0) (primitive-meant (cc))), c .before .before .before .before .before .before .before .before .before .pre .1 .1 .1 .keeps)
 
 inline-type-test-returns-4 : Ask-inline-type-test inline-type-test-lts.Need-returns-4
-inline-type-test-returns-4 t c = (c .reference-test .ensures .0 ∙ typeRef-tested _ _ (type-opened _ _ _ _ (c .before .before .before .before .before .before .before .before .before .before .pre .1 .1 .0) (c .before .before .before .before .before .before .before .form-of .ensures)) (c .before .before .before .before .before .before .before .before .before .before .pre .1 .1 .0) (typeRef-meant (cc)), c .reference-test .ensures .1)
+inline-type-test-returns-4 t c = (c .reference-test .ensures .0 ∙ typeRef-tested _ _ (type-opened _ _ _ _ (c .before .before .before .before .before .before .before .before .before .before .before .pre .1 .1 .0) (c .before .before .before .before .before .before .before .form-of .ensures)) (c .before .before .before .before .before .before .before .before .before .before .before .pre .1 .1 .0) (typeRef-meant (cc)), c .reference-test .ensures .1)
 
 inline-type-test-returns-5 : Ask-inline-type-test inline-type-test-lts.Need-returns-5
-inline-type-test-returns-5 t c = (c .group-test .ensures .0 ∙ struct-tested _ _ (type-opened _ _ _ _ (c .before .before .before .before .before .before .before .before .before .before .pre .1 .1 .0) (c .before .before .before .before .before .before .before .form-of .ensures)) (c .before .before .before .before .before .before .before .before .before .before .pre .1 .1 .0) (struct-meant (cc)), c .group-test .ensures .1)
+inline-type-test-returns-5 t c = (c .group-test .ensures .0 ∙ struct-tested _ _ (type-opened _ _ _ _ (c .before .before .before .before .before .before .before .before .before .before .before .pre .1 .1 .0) (c .before .before .before .before .before .before .before .form-of .ensures)) (c .before .before .before .before .before .before .before .before .before .before .before .pre .1 .1 .0) (struct-meant (cc)), c .group-test .ensures .1)
 
 inline-type-test-returns-6 : Ask-inline-type-test inline-type-test-lts.Need-returns-6
-inline-type-test-returns-6 t c = (c .group-test2 .ensures .0 ∙ union-tested _ _ (type-opened _ _ _ _ (c .before .before .before .before .before .before .before .before .before .before .pre .1 .1 .0) (c .before .before .before .before .before .before .before .form-of .ensures)) (c .before .before .before .before .before .before .before .before .before .before .pre .1 .1 .0) (union-meant (cc)), c .group-test2 .ensures .1)
+inline-type-test-returns-6 t c = (c .group-test2 .ensures .0 ∙ union-tested _ _ (type-opened _ _ _ _ (c .before .before .before .before .before .before .before .before .before .before .before .pre .1 .1 .0) (c .before .before .before .before .before .before .before .form-of .ensures)) (c .before .before .before .before .before .before .before .before .before .before .before .pre .1 .1 .0) (union-meant (cc)), c .group-test2 .ensures .1)
 
 inline-type-test-returns-7 : Ask-inline-type-test inline-type-test-lts.Need-returns-7
-inline-type-test-returns-7 t c = (c .enum-test .ensures .0 ∙ sym (enum-inline _ _ (type-opened _ _ _ _ (c .before .before .before .before .before .before .before .before .before .before .pre .1 .1 .0) (c .before .before .before .before .before .before .before .form-of .ensures)) (c .before .before .before .before .before .before .before .before .before .before .pre .1 .1 .0) (enum-meant (cc))), c .enum-test .ensures .1)
+inline-type-test-returns-7 t c = (c .enum-test .ensures .0 ∙ sym (enum-inline _ _ (type-opened _ _ _ _ (c .before .before .before .before .before .before .before .before .before .before .before .pre .1 .1 .0) (c .before .before .before .before .before .before .before .form-of .ensures)) (c .before .before .before .before .before .before .before .before .before .before .before .pre .1 .1 .0) (enum-meant (cc))), c .enum-test .ensures .1)
 
 inline-type-test-returns-8 : Ask-inline-type-test inline-type-test-lts.Need-returns-8
-inline-type-test-returns-8 t c = (c .array-test .ensures .0 ∙ sym (array-inline _ _ (type-opened _ _ _ _ (c .before .before .before .before .before .before .before .before .before .before .pre .1 .1 .0) (c .before .before .before .before .before .before .before .form-of .ensures)) (c .before .before .before .before .before .before .before .before .before .before .pre .1 .1 .0) (array-meant (cc))), c .array-test .ensures .1)
+inline-type-test-returns-8 t c = (c .array-test .ensures .0 ∙ sym (array-inline _ _ (type-opened _ _ _ _ (c .before .before .before .before .before .before .before .before .before .before .before .pre .1 .1 .0) (c .before .before .before .before .before .before .before .form-of .ensures)) (c .before .before .before .before .before .before .before .before .before .before .before .pre .1 .1 .0) (array-meant (cc))), c .array-test .ensures .1)
 
 inline-type-test-returns-9 : Ask-inline-type-test inline-type-test-lts.Need-returns-9
-inline-type-test-returns-9 t c = (sym (sizeUnion-size _ _ (type-opened _ _ _ _ (c .before .before .before .before .before .before .before .before .before .pre .1 .1 .0) (c .before .before .before .before .before .before .form-of .ensures)) (c .before .before .before .before .before .before .before .before .before .pre .1 .1 .0) (sizeUnion-meant (cc)) (c .if1 .left)), c .before .before .before .before .before .before .before .before .before .pre .1 .1 .1 .keeps)
+inline-type-test-returns-9 t c = (sym (sizeUnion-size _ _ (type-opened _ _ _ _ (c .before .before .before .before .before .before .before .before .before .before .pre .1 .1 .0) (c .before .before .before .before .before .before .form-of .ensures)) (c .before .before .before .before .before .before .before .before .before .before .pre .1 .1 .0) (sizeUnion-meant (cc)) (c .if1 .left)), c .before .before .before .before .before .before .before .before .before .before .pre .1 .1 .1 .keeps)
 
 abbrev members-test-Inv-loop : members-test-lts.InvT-loop
 members-test-Inv-loop s places count kept₀ jagged at depth kind n left next₀ rest₀ kept next rest =
@@ -604,7 +604,7 @@ abbrev Ask-members-test : (members-test-lts.Claims → In 3 members-test-kinds.p
 Ask-members-test N = (t : ℕ) → N (calls-members-test t) (members-test-at t) members-test.Post members-test-Inv-loop members-test-μ-loop
 
 members-test-loop-holds : Ask-members-test members-test-lts.Need-loop-holds
-members-test-loop-holds t c = testing-start (c .before .pre .1 .1 .0) (c .before .pre .1 .1 .1)
+members-test-loop-holds t c = testing-start (c .before .before .pre .1 .1 .0) (c .before .before .pre .1 .1 .1)
 
 members-test-member-head-at-requires : Ask-members-test members-test-lts.Need-member-head-at-requires
 members-test-member-head-at-requires t c κs = search needs
@@ -619,7 +619,7 @@ members-test-returns : Ask-members-test members-test-lts.Need-returns
 members-test-returns t c = absurd (head-no _ _ _ _ _ (c .before .before .before .loop-test .taken) (c .before .before .before .before .loop .inv .reads) _ (sym (c .enum-told .given .1) ∙ c .before .before .member-head-at .ensures))
 
 members-test-inline-type-test-requires : Ask-members-test members-test-lts.Need-inline-type-test-requires
-members-test-inline-type-test-requires t c κs = (omega (arith, c .before .before .before .before .before .before .before .before .pre .0), (c .before .before .before .before .before .before .before .before .pre .1 .0, (member-type-reads _ _ _ _ _ (c .before .before .before .before .before .loop-test .taken) (c .before .before .before .before .before .before .loop .inv .reads) _ (sym (c .before .before .head .given .1) ∙ c .before .before .before .before .member-head-at .ensures), testing-inside (c .before .before .before .before .before .before .loop .inv) (c .before .before .before .before .before .loop-test .taken) _ (sym (c .before .before .head .given .1) ∙ c .before .before .before .before .member-head-at .ensures))))
+members-test-inline-type-test-requires t c κs = (omega (arith, c .before .before .before .before .before .before .before .before .before .pre .0), (c .before .before .before .before .before .before .before .before .before .pre .1 .0, (member-type-reads _ _ _ _ _ (c .before .before .before .before .before .loop-test .taken) (c .before .before .before .before .before .before .loop .inv .reads) _ (sym (c .before .before .head .given .1) ∙ c .before .before .before .before .member-head-at .ensures), testing-inside (c .before .before .before .before .before .before .loop .inv) (c .before .before .before .before .before .loop-test .taken) _ (sym (c .before .before .head .given .1) ∙ c .before .before .before .before .member-head-at .ensures))))
 
 members-test-enum-known-tested : Ask-members-test members-test-lts.Need-enum-known-tested
 members-test-enum-known-tested t c = search needs
@@ -643,61 +643,61 @@ members-test-returns-3 : Ask-members-test members-test-lts.Need-returns-3
 members-test-returns-3 t c = (testing-end (c .before .loop .inv) (omega arith), c .before .loop .inv .ready .keeps)
 
 named-type-test-element-copy-out-answer : Ask-named-type-test named-type-test-lts.Need-element-copy-out-answer
-named-type-test-element-copy-out-answer t c = omega (arith, c .before .pre .1 .0 .count, c .before .pre .1 .0 .placed .room, c .before .pre .1 .1, c .before .pre .1 .2 .keeps .size)
+named-type-test-element-copy-out-answer t c = omega (arith, c .before .before .pre .1 .0 .count, c .before .before .pre .1 .0 .placed .room, c .before .before .pre .1 .1, c .before .before .pre .1 .2 .keeps .size)
 
 named-type-test-returns : Ask-named-type-test named-type-test-lts.Need-returns
-named-type-test-returns t c = (sym (c .before .before .before .pre .1 .2 .keeps .no _ (c .if1 .taken)), c .before .before .before .pre .1 .2 .keeps)
+named-type-test-returns t c = (sym (c .before .before .before .before .pre .1 .2 .keeps .no _ (c .if1 .taken)), c .before .before .before .before .pre .1 .2 .keeps)
 
 named-type-test-returns-2 : Ask-named-type-test named-type-test-lts.Need-returns-2
-named-type-test-returns-2 t c = (sym (c .before .before .before .before .pre .1 .2 .keeps .yes _ (c .if2 .taken)), c .before .before .before .before .pre .1 .2 .keeps)
+named-type-test-returns-2 t c = (sym (c .before .before .before .before .before .pre .1 .2 .keeps .yes _ (c .if2 .taken)), c .before .before .before .before .before .pre .1 .2 .keeps)
 
 named-type-test-mul-at : Ask-named-type-test named-type-test-lts.Need-mul-at
-named-type-test-mul-at t c = omega (arith, c .before .before .before .before .pre .1 .0 .count, c .before .before .before .before .pre .1 .0 .placed .room, c .before .before .before .before .pre .1 .1, c .before .before .before .before .pre .1 .2 .keeps .size)
+named-type-test-mul-at t c = omega (arith, c .before .before .before .before .before .pre .1 .0 .count, c .before .before .before .before .before .pre .1 .0 .placed .room, c .before .before .before .before .before .pre .1 .1, c .before .before .before .before .before .pre .1 .2 .keeps .size)
 
-named-type-test-element-copy-out-at : Ask-named-type-test named-type-test-lts.Need-element-copy-out-at
-named-type-test-element-copy-out-at t c = omega (arith, c .before .before .before .before .pre .1 .0 .count, c .before .before .before .before .pre .1 .0 .placed .room, c .before .before .before .before .pre .1 .1, c .before .before .before .before .pre .1 .2 .keeps .size)
+named-type-test-shared-slice-read-at : Ask-named-type-test named-type-test-lts.Need-shared-slice-read-at
+named-type-test-shared-slice-read-at t c = omega (arith, c .before .before .before .before .before .before .pre .1 .0 .count, c .before .before .before .before .before .before .pre .1 .0 .placed .room, c .before .before .before .before .before .before .pre .1 .1, c .before .before .before .before .before .before .pre .1 .2 .keeps .size)
 
 named-type-test-cast-at : Ask-named-type-test named-type-test-lts.Need-cast-at
-named-type-test-cast-at t c = record { fits = omega (arith, place-there (c .before .before .before .before .before .pre .1 .0) _ (c .before .before .before .before .before .pre .1 .1)) }
+named-type-test-cast-at t c = record { fits = omega (arith, place-there (c .before .before .before .before .before .before .pre .1 .0) _ (c .before .before .before .before .before .before .pre .1 .1)) }
 
 named-type-test-sub-definition-test : Ask-named-type-test named-type-test-lts.Need-sub-definition-test
-named-type-test-sub-definition-test t c = omega (arith, some-left (c .before .before .before .before .before .before .pre .1 .0) (c .before .before .before .before .before .before .pre .1 .1) (c .before .before .before .before .before .before .pre .1 .2))
+named-type-test-sub-definition-test t c = omega (arith, some-left (c .before .before .before .before .before .before .before .pre .1 .0) (c .before .before .before .before .before .before .before .pre .1 .1) (c .before .before .before .before .before .before .before .pre .1 .2))
 
 named-type-test-definition-test-requires : Ask-named-type-test named-type-test-lts.Need-definition-test-requires
-named-type-test-definition-test-requires t c κs = (omega (arith, c .before .before .before .before .before .before .pre .0, some-left (c .before .before .before .before .before .before .pre .1 .0) (c .before .before .before .before .before .before .pre .1 .1) (c .before .before .before .before .before .before .pre .1 .2)), ((c .before .before .before .before .before .before .pre .1 .0), (placed-at (c .before .before .before .before .before .before .pre .1 .0) _ (c .before .before .before .before .before .before .pre .1 .1) .reads, definition-ready (c .before .before .before .before .before .before .pre .1 .0) (c .before .before .before .before .before .before .pre .1 .1) (c .before .before .before .before .before .before .pre .1 .2))))
+named-type-test-definition-test-requires t c κs = (omega (arith, c .before .before .before .before .before .before .before .pre .0, some-left (c .before .before .before .before .before .before .before .pre .1 .0) (c .before .before .before .before .before .before .before .pre .1 .1) (c .before .before .before .before .before .before .before .pre .1 .2)), ((c .before .before .before .before .before .before .before .pre .1 .0), (placed-at (c .before .before .before .before .before .before .before .pre .1 .0) _ (c .before .before .before .before .before .before .before .pre .1 .1) .reads, definition-ready (c .before .before .before .before .before .before .before .pre .1 .0) (c .before .before .before .before .before .before .before .pre .1 .1) (c .before .before .before .before .before .before .before .pre .1 .2))))
 
 named-type-test-mark-of-requires : Ask-named-type-test named-type-test-lts.Need-mark-of-requires
 named-type-test-mark-of-requires t c κs = search needs
 
 named-type-test-element-write-kept : Ask-named-type-test named-type-test-lts.Need-element-write-kept
-named-type-test-element-write-kept t c = omega (arith, c .before .before .before .before .before .before .before .before .pre .1 .0 .count, c .before .before .before .before .before .before .before .before .pre .1 .0 .placed .room, c .before .before .before .before .before .before .before .before .pre .1 .1, c .before .definition-test .ensures .1 .size)
+named-type-test-element-write-kept t c = omega (arith, c .before .before .before .before .before .before .before .before .before .pre .1 .0 .count, c .before .before .before .before .before .before .before .before .before .pre .1 .0 .placed .room, c .before .before .before .before .before .before .before .before .before .pre .1 .1, c .before .definition-test .ensures .1 .size)
 
 named-type-test-returns-3 : Ask-named-type-test named-type-test-lts.Need-returns-3
-named-type-test-returns-3 t c = (c .before .definition-test .ensures .0 ∙ definition-answer (c .before .before .before .before .before .before .before .before .pre .1 .0) (c .before .before .before .before .before .before .before .before .pre .1 .1) (c .before .before .before .before .before .before .before .before .pre .1 .2), definition-kept (c .before .before .before .before .before .before .before .before .pre .1 .0) (c .before .before .before .before .before .before .before .before .pre .1 .1) (c .before .before .before .before .before .before .before .before .pre .1 .2) (c .before .definition-test .ensures .1) _ _ (c .before .definition-test .ensures .0 ∙ definition-answer (c .before .before .before .before .before .before .before .before .pre .1 .0) (c .before .before .before .before .before .before .before .before .pre .1 .1) (c .before .before .before .before .before .before .before .before .pre .1 .2)) (c .mark-of .ensures))
+named-type-test-returns-3 t c = (c .before .definition-test .ensures .0 ∙ definition-answer (c .before .before .before .before .before .before .before .before .before .pre .1 .0) (c .before .before .before .before .before .before .before .before .before .pre .1 .1) (c .before .before .before .before .before .before .before .before .before .pre .1 .2), definition-kept (c .before .before .before .before .before .before .before .before .before .pre .1 .0) (c .before .before .before .before .before .before .before .before .before .pre .1 .1) (c .before .before .before .before .before .before .before .before .before .pre .1 .2) (c .before .definition-test .ensures .1) _ _ (c .before .definition-test .ensures .0 ∙ definition-answer (c .before .before .before .before .before .before .before .before .before .pre .1 .0) (c .before .before .before .before .before .before .before .before .before .pre .1 .1) (c .before .before .before .before .before .before .before .before .before .pre .1 .2)) (c .mark-of .ensures))
 
 reference-test-u16-at-requires : Ask-reference-test reference-test-lts.Need-u16-at-requires
-reference-test-u16-at-requires t c κs = c .before .pre .1 .0
+reference-test-u16-at-requires t c κs = c .before .before .pre .1 .0
 
 reference-test-definition-of-requires : Ask-reference-test reference-test-lts.Need-definition-of-requires
-reference-test-definition-of-requires t c κs = c .before .before .pre .1 .1
+reference-test-definition-of-requires t c κs = c .before .before .before .pre .1 .1
 
 reference-test-add-t11 : Ask-reference-test reference-test-lts.Need-add-t11
-reference-test-add-t11 t c = omega (arith, c .before .before .before .before .pre .1 .0)
+reference-test-add-t11 t c = omega (arith, c .before .before .before .before .before .pre .1 .0)
 
 reference-test-returns : Ask-reference-test reference-test-lts.Need-returns
-reference-test-returns t c = (name-none (c .before .before .before .before .pre .1 .1) _ _ _ _ _ (c .before .definition-of .ensures ∙ ap (definitionOf (bundleOf _)) (c .before .before .u16-at .ensures)) (c .before .before .before .before .pre .1 .2 .1) (c .if1 .taken), c .before .before .before .before .pre .1 .2 .1 .keeps)
+reference-test-returns t c = (name-none (c .before .before .before .before .before .pre .1 .1) _ _ _ _ _ (c .before .definition-of .ensures ∙ ap (definitionOf (bundleOf _)) (c .before .before .u16-at .ensures)) (c .before .before .before .before .before .pre .1 .2 .1) (c .if1 .taken), c .before .before .before .before .before .pre .1 .2 .1 .keeps)
 
 reference-test-named-type-test-requires : Ask-reference-test reference-test-lts.Need-named-type-test-requires
-reference-test-named-type-test-requires t c κs = (omega (arith, c .before .before .before .before .before .pre .0), ((c .before .before .before .before .before .pre .1 .1), c .before .if1 .left, name-ready (c .before .before .before .before .before .pre .1 .1) _ _ _ _ 0 (c .before .before .definition-of .ensures ∙ ap (definitionOf (bundleOf _)) (c .before .before .before .u16-at .ensures)) (c .before .before .before .before .before .pre .1 .2 .1) (c .before .if1 .left)))
+reference-test-named-type-test-requires t c κs = (omega (arith, c .before .before .before .before .before .before .pre .0), ((c .before .before .before .before .before .before .pre .1 .1), c .before .if1 .left, name-ready (c .before .before .before .before .before .before .pre .1 .1) _ _ _ _ 0 (c .before .before .definition-of .ensures ∙ ap (definitionOf (bundleOf _)) (c .before .before .before .u16-at .ensures)) (c .before .before .before .before .before .before .pre .1 .2 .1) (c .before .if1 .left)))
 
 reference-test-add-t15 : Ask-reference-test reference-test-lts.Need-add-t15
-reference-test-add-t15 t c = omega (arith, c .before .before .before .before .before .before .before .pre .1 .0)
+reference-test-add-t15 t c = omega (arith, c .before .before .before .before .before .before .before .before .pre .1 .0)
 
 reference-test-returns-2 : Ask-reference-test reference-test-lts.Need-returns-2
-reference-test-returns-2 t c = (name-tested (c .before .before .before .before .before .before .before .pre .1 .1) _ _ _ _ _ (c .before .before .before .before .definition-of .ensures ∙ ap (definitionOf (bundleOf _)) (c .before .before .before .before .before .u16-at .ensures)) (c .before .before .before .before .before .before .before .pre .1 .2 .1) _ (c .before .named-type-test .ensures .0) .0 (c .if2 .taken), c .before .named-type-test .ensures .1)
+reference-test-returns-2 t c = (name-tested (c .before .before .before .before .before .before .before .before .pre .1 .1) _ _ _ _ _ (c .before .before .before .before .definition-of .ensures ∙ ap (definitionOf (bundleOf _)) (c .before .before .before .before .before .u16-at .ensures)) (c .before .before .before .before .before .before .before .before .pre .1 .2 .1) _ (c .before .named-type-test .ensures .0) .0 (c .if2 .taken), c .before .named-type-test .ensures .1)
 
 reference-test-returns-3 : Ask-reference-test reference-test-lts.Need-returns-3
-reference-test-returns-3 t c = (name-tested (c .before .before .before .before .before .before .before .pre .1 .1) _ _ _ _ _ (c .before .before .before .before .definition-of .ensures ∙ ap (definitionOf (bundleOf _)) (c .before .before .before .before .before .u16-at .ensures)) (c .before .before .before .before .before .before .before .pre .1 .2 .1) _ (c .before .named-type-test .ensures .0) .1 (c .if2 .left), c .before .named-type-test .ensures .1)
+reference-test-returns-3 t c = (name-tested (c .before .before .before .before .before .before .before .before .pre .1 .1) _ _ _ _ _ (c .before .before .before .before .definition-of .ensures ∙ ap (definitionOf (bundleOf _)) (c .before .before .before .before .before .u16-at .ensures)) (c .before .before .before .before .before .before .before .before .pre .1 .2 .1) _ (c .before .named-type-test .ensures .0) .1 (c .if2 .left), c .before .named-type-test .ensures .1)
 
 pub +array-test+definition-test+enum-definition-test+enum-test+group-test+inline-type-test+members-test+named-type-test+reference-test-spec :
     {M : Type 1} → statement M
@@ -852,7 +852,7 @@ pub +array-test+definition-test+enum-definition-test+enum-test+group-test+inline
     (named-type-test-returns t)
     (named-type-test-returns-2 t)
     (named-type-test-mul-at t)
-    (named-type-test-element-copy-out-at t)
+    (named-type-test-shared-slice-read-at t)
     (named-type-test-cast-at t)
     (named-type-test-sub-definition-test t)
     (named-type-test-definition-test-requires t)

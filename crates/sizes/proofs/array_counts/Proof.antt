@@ -22,4 +22,9 @@ returns-2 c = rw (c .before .if1 .left) (ap not (c .is-constant .ensures))
 
 pub array-counts-spec : {M : Type 1} → statement M
 array-counts-spec =
-    tie.close (tie.spec add-result shared-slice-read-result returns is-constant-requires returns-2)
+    tie.close (tie.spec
+    add-result
+    shared-slice-read-result
+    returns
+    is-constant-requires
+    returns-2)

@@ -14,4 +14,7 @@ returns-2 : tie.Need-returns-2
 returns-2 c = rw (c .before .if1 .left) (ap not (c .is-constant .ensures))
 
 pub expr-counts-spec : {M : Type 1} → statement M
-expr-counts-spec = tie.close (tie.spec returns is-constant-requires returns-2)
+expr-counts-spec = tie.close (tie.spec
+    returns
+    is-constant-requires
+    returns-2)

@@ -26,4 +26,10 @@ returns-2 c = absurd (expr-no _ _ _ _ (c .before .before .before .before .pre .0
 pub expr-has-reference-spec : {M : Type 1} → statement M
 expr-has-reference-spec =
     tie.close
-    (tie.spec expr-at-requires enum-known-step has-reference-requires enum-told returns returns-2)
+    (tie.spec
+    expr-at-requires
+    enum-known-step
+    has-reference-requires
+    enum-told
+    returns
+    returns-2)

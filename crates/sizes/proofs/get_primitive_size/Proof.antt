@@ -18,4 +18,8 @@ returns : tie.Need-returns
 returns c = search needs
 
 pub get-primitive-size-spec : {M : Type 1} → statement M
-get-primitive-size-spec = tie.close (tie.spec sub-result cast-result array-read-result returns)
+get-primitive-size-spec = tie.close (tie.spec
+    sub-result
+    cast-result
+    array-read-result
+    returns)

@@ -5,10 +5,12 @@ use mathlib.Core.Path.{_∙_}
 use Rattle.sizes.proofs.TestLaws.{ready-definition, size-answer}
 
 named-type-test-requires : tie.Need-named-type-test-requires
-named-type-test-requires c κs = (c .before .before .pre .0, c .before .before .pre .1, ready-definition (c .before .before .pre .0) (c .before .before .pre .2) _ (c .before .before .pre .3) _ (c .before .before .pre .1))
+named-type-test-requires c κs = (c .before .before .before .pre .0, c .before .before .before .pre .1, ready-definition (c .before .before .before .pre .0) (c .before .before .before .pre .2) _ (c .before .before .before .pre .3) _ (c .before .before .before .pre .1))
 
 returns : tie.Need-returns
 returns c = (c .named-type-test .ensures .0 ∙ size-answer _ _, c .named-type-test .ensures .1)
 
 pub type-size-depends-on-field-refs-spec : {M : Type 1} → statement M
-type-size-depends-on-field-refs-spec = tie.close (tie.spec named-type-test-requires returns)
+type-size-depends-on-field-refs-spec = tie.close (tie.spec
+    named-type-test-requires
+    returns)
