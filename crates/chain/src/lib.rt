@@ -555,7 +555,23 @@ fn answer_for(found: Found, size: usize) -> bundle::Answer
     }
 }
 
-// The chain from `from` to `to` over the edges of a bundle, into the first places of `list`.
+// The chain from `from` to `to` over the edges of a bundle, into the first places of `list`, with a lent list of places.
+fn chain_in(bytes: &[u8], places: &mut [u16], from: u16, to: u16, list: &mut [u16]) -> bundle::Answer
+    requires { ⌜ 256 ≤ length (now places) ⌝ }
+    ensures { λ r. ⌜ Call (chaining from to (now (bytes .entry))) (now (list .entry)) (now (list .exit)) (answerMeant r) ⌝ }
+{
+    let opening = bundle::open(bytes, places);
+    match opening {
+        bundle::Opening::Opened(layout) => {
+            let found = find_chain_at(bytes, layout.edges_at, layout.edges, from, to, list);
+            answer_for(found, list.len())
+        }
+        bundle::Opening::Refused(k) => bundle::Answer::Refused(k),
+    }
+}
+
+// The chain from `from` to `to` over the edges of a bundle, into the first places of `list`. A short bundle is not worth the clearing of
+// a place for each name.
 pub fn find_layout_dependency_chain(
     bytes: &[u8],
     from: u16,
@@ -564,13 +580,10 @@ pub fn find_layout_dependency_chain(
 ) -> bundle::Answer
     ensures { λ r. ⌜ Call (chaining from to (now (bytes .entry))) (now (list .entry)) (now (list .exit)) (answerMeant r) ⌝ }
 {
-    let mut places = [0u16; 256];
-    let opening = bundle::open(bytes, &mut places);
-    match opening {
-        bundle::Opening::Opened(layout) => {
-            let found = find_chain_at(bytes, layout.edges_at, layout.edges, from, to, list);
-            answer_for(found, list.len())
-        }
-        bundle::Opening::Refused(k) => bundle::Answer::Refused(k),
+    if bytes.len() <= 1024 {
+        let mut places = [0u16; 256];
+        return chain_in(bytes, &mut places, from, to, list);
     }
+    let mut places = [0u16; 65792];
+    chain_in(bytes, &mut places, from, to, list)
 }

@@ -108,12 +108,12 @@ fn scan(s: &[u8], out: &mut [u8], table: &mut [u16])
     }
 }
 
-// Writes the bundle with its names renumbered to the first places of `out`.
-pub fn renumber(bundle: &[u8], out: &mut [u8]) -> Answer
+// Writes the bundle with its names renumbered to the first places of `out`, with a lent list of places.
+fn renumber_in(bundle: &[u8], places: &mut [u16], out: &mut [u8]) -> Answer
+    requires { ⌜ 256 ≤ length (now places) ⌝ }
     ensures { λ r. ⌜ Call (renumbering (now (bundle .entry))) (now (out .entry)) (now (out .exit)) (answerMeant r) ⌝ }
 {
-    let mut places = [0u16; 256];
-    let opening = bundle::open(bundle, &mut places);
+    let opening = bundle::open(bundle, places);
     match opening {
         Opening::Opened(_) => {
             if out.len() < bundle.len() {
@@ -125,4 +125,17 @@ pub fn renumber(bundle: &[u8], out: &mut [u8]) -> Answer
         }
         Opening::Refused(k) => Answer::Refused(k),
     }
+}
+
+// Writes the bundle with its names renumbered to the first places of `out`. A short bundle is not worth the clearing of a place for each
+// name to find its definition.
+pub fn renumber(bundle: &[u8], out: &mut [u8]) -> Answer
+    ensures { λ r. ⌜ Call (renumbering (now (bundle .entry))) (now (out .entry)) (now (out .exit)) (answerMeant r) ⌝ }
+{
+    if bundle.len() <= 1024 {
+        let mut places = [0u16; 256];
+        return renumber_in(bundle, &mut places, out);
+    }
+    let mut places = [0u16; 65792];
+    renumber_in(bundle, &mut places, out)
 }

@@ -1,49 +1,44 @@
--- `chain::find_layout_dependency_chain` meets its contract: what the bytes are refused for, or what was found for the bundle that they are.
-use Rattle.bundle.proofs.AnswerLaws.{opened-layout, opened-refused}
-use Rattle.meaning.specs.Due.{chaining}
-use Rattle.chain.proofs.Called.{called, turned-down}
-use native.Mathlib.Omega.{arith}
+-- `chain::find_layout_dependency_chain` meets its contract.
 use borrow.Author.Needs.{needs}
 use Rattle.chain.proofs.find_layout_dependency_chain.Statement.{statement}
 use Rattle.chain.proofs.find_layout_dependency_chain.Tie as tie
+use Prim.Native.Nat.{ℕ}
+use native.Mathlib.Omega.{arith}
+use lib.ListN.{length-replicate}
 
-open-requires : tie.Need-open-requires
-open-requires c κs = search needs
+slice-aggregate-chain-in : tie.Need-slice-aggregate-chain-in
+slice-aggregate-chain-in c = search needs
 
-enum-known-opening : tie.Need-enum-known-opening
-enum-known-opening c = search needs
-
-find-chain-at-requires : tie.Need-find-chain-at-requires
-find-chain-at-requires c κs = let o = opened-layout _ _ _ _ (c .before .before .before .before .«open» .ensures) (c .before .before .opening .given .1) .0 in
-    record { few = o .few; lie = omega (arith, o .from .end, o .edges) }
-
-answer-for-requires : tie.Need-answer-for-requires
-answer-for-requires c κs = search needs
-
-enum-known-opening-2 : tie.Need-enum-known-opening-2
-enum-known-opening-2 c = search needs
+chain-in-requires : tie.Need-chain-in-requires
+chain-in-requires c κs = omega (arith, length-replicate {A = ℕ} 256 0)
 
 same-length : tie.Need-same-length
 same-length c = search needs
 
 returns : tie.Need-returns
-returns c = let o = opened-layout _ _ _ _ (c .before .before .before .before .before .before .before .before .«open» .ensures) (c .before .before .before .before .before .before .opening .given .1) in
-    let f = c .before .before .before .find-chain-at in
-    called _ _ (o .0) (o .1) (f .ensures) _ (f .kept .1 .1 .1 .1 .1 .0) (c .answer-for .ensures)
+returns c = c .before .before .before .chain-in .ensures
+
+slice-aggregate-chain-in-2 : tie.Need-slice-aggregate-chain-in-2
+slice-aggregate-chain-in-2 c = search needs
+
+chain-in-requires-2 : tie.Need-chain-in-requires-2
+chain-in-requires-2 c κs = omega (arith, length-replicate {A = ℕ} 65792 0)
+
+same-length-2 : tie.Need-same-length-2
+same-length-2 c = search needs
 
 returns-2 : tie.Need-returns-2
-unfolding chaining
-returns-2 c = turned-down _ (opened-refused _ _ _ _ (c .before .before .before .«open» .ensures) (c .before .opening2 .given .1) _)
+returns-2 c = c .before .before .before .chain-in2 .ensures
 
 pub find-layout-dependency-chain-spec : {M : Type 1} → statement M
 find-layout-dependency-chain-spec =
     tie.close
     (tie.spec
-    open-requires
-    enum-known-opening
-    find-chain-at-requires
-    answer-for-requires
-    enum-known-opening-2
+    slice-aggregate-chain-in
+    chain-in-requires
     same-length
     returns
+    slice-aggregate-chain-in-2
+    chain-in-requires-2
+    same-length-2
     returns-2)

@@ -17,4 +17,8 @@ returns-2 : tie.Need-returns-2
 returns-2 c = sought-name _ _ _ _ _ _ (c .before .if1 .left)
 
 pub is-sought-spec : {M : Type 1} → statement M
-is-sought-spec = tie.close (tie.spec shape-at-requires is-ref-to-requires returns returns-2)
+is-sought-spec = tie.close (tie.spec
+    shape-at-requires
+    is-ref-to-requires
+    returns
+    returns-2)

@@ -1,65 +1,44 @@
--- `renumber::renumber` meets its contract. Assumes nothing.
+-- `renumber::renumber` meets its contract.
 use borrow.Author.Needs.{needs}
-use native.Mathlib.Omega.{arith}
-use Rattle.names.proofs.Tables.{zero-table}
-use Rattle.meaning.specs.Encoding.{Bytes}
-use Rattle.meaning.specs.Calls.{Accepted}
-use Rattle.meaning.proofs.RenumberingLaws.{accepted-whole}
-use Rattle.bundle.proofs.AnswerLaws.{opened-layout, opened-refused}
-use Rattle.renumber.proofs.AnswerLaws.{opened-accepted, accepted-small, answers-refused, answers-narrow, answers-renumbered}
 use Rattle.renumber.proofs.renumber.Statement.{statement}
 use Rattle.renumber.proofs.renumber.Tie as tie
+use Prim.Native.Nat.{ℕ}
+use native.Mathlib.Omega.{arith}
+use lib.ListN.{length-replicate}
 
--- the slice holds bytes
-bound : (c : tie.After-shared-slice-known) → Bytes (c .before .args .bundle .now)
-bound c = λ i. omega (arith, c .shared-slice-known .given i)
+slice-aggregate-renumber-in : tie.Need-slice-aggregate-renumber-in
+slice-aggregate-renumber-in c = search needs
 
--- and is accepted once it was opened
-accepted : (c : tie.After-enum-told) → Accepted (c .before .before .before .before .before .before .args .bundle .now)
-accepted c =
-    opened-accepted (bound (c .before .before .before .before .before))
-    (opened-layout _ _ _ _ (c .before .before .«open» .ensures) (c .enum-told .given .1))
-
-open-requires : tie.Need-open-requires
-open-requires c κs = search needs
-
-enum-told : tie.Need-enum-told
-enum-told c = search needs
-
-returns : tie.Need-returns
-returns c = answers-narrow (bound (c .before .before .before .before .before .before)) (accepted (c .before)) _ (c .if1 .taken)
-
-slice-aggregate-scan : tie.Need-slice-aggregate-scan
-slice-aggregate-scan c = search needs
-
-scan-requires : tie.Need-scan-requires
-scan-requires c κs =
-    let a = accepted (c .before .before .before) in
-    ((accepted-small a, c .before .before .if1 .left), (accepted-whole a, zero-table))
-
-enum-known-opening : tie.Need-enum-known-opening
-enum-known-opening c = search needs
+renumber-in-requires : tie.Need-renumber-in-requires
+renumber-in-requires c κs = omega (arith, length-replicate {A = ℕ} 256 0)
 
 same-length : tie.Need-same-length
 same-length c = search needs
 
-returns-2 : tie.Need-returns-2
-returns-2 c =
-    answers-renumbered (bound (c .before .before .before .before .before .before .before .before .before .before .before .before)) (accepted (c .before .before .before .before .before .before .before)) _ _ (c .before .before .before .before .before .before .if1 .left) (c .before .before .before .scan .ensures)
+returns : tie.Need-returns
+returns c = c .before .before .before .renumber-in .ensures
 
-returns-3 : tie.Need-returns-3
-returns-3 c = answers-refused _ _ _ (opened-refused _ _ _ _ (c .before .before .before .«open» .ensures) (c .before .opening .given .1))
+slice-aggregate-renumber-in-2 : tie.Need-slice-aggregate-renumber-in-2
+slice-aggregate-renumber-in-2 c = search needs
+
+renumber-in-requires-2 : tie.Need-renumber-in-requires-2
+renumber-in-requires-2 c κs = omega (arith, length-replicate {A = ℕ} 65792 0)
+
+same-length-2 : tie.Need-same-length-2
+same-length-2 c = search needs
+
+returns-2 : tie.Need-returns-2
+returns-2 c = c .before .before .before .renumber-in2 .ensures
 
 pub renumber-spec : {M : Type 1} → statement M
 renumber-spec =
     tie.close
     (tie.spec
-    open-requires
-    enum-told
-    returns
-    slice-aggregate-scan
-    scan-requires
-    enum-known-opening
+    slice-aggregate-renumber-in
+    renumber-in-requires
     same-length
-    returns-2
-    returns-3)
+    returns
+    slice-aggregate-renumber-in-2
+    renumber-in-requires-2
+    same-length-2
+    returns-2)
