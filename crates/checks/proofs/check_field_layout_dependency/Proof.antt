@@ -8,7 +8,7 @@ use Rattle.checks.proofs.ChainChecks.{fine, part-is, part-other}
 use Rattle.checks.proofs.FieldChecks.{known-at, field-other, field-nowhere, field-fine, forward-fit, forward-many, field-forward}
 
 shape-at-requires : tie.Need-shape-at-requires
-shape-at-requires c κs = c .before .before .pre .1 .0
+shape-at-requires c κs = c .before .before .before .pre .1 .0
 
 enum-known-shape : tie.Need-enum-known-shape
 enum-known-shape c = search needs
@@ -17,7 +17,7 @@ returns : tie.Need-returns
 returns c = λ v. fine _ _ _ (field-other _ _ _ _ _ (c .before .shape-at .result) (c .before .shape-at .ensures) v (c .match .keys2))
 
 find-definition-requires : tie.Need-find-definition-requires
-find-definition-requires c κs = c .before .before .before .before .before .before .pre .0 .0 .table
+find-definition-requires c κs = c .before .before .before .before .before .before .before .pre .0 .0 .table
 
 enum-known-found : tie.Need-enum-known-found
 enum-known-found c = search needs
@@ -29,10 +29,10 @@ returns-2 : tie.Need-returns-2
 returns-2 c = λ v. fine _ _ _ (field-nowhere _ _ _ _ _ (c .before .before .before .before .before .before .shape-at .result) (c .before .before .before .before .before .before .shape-at .ensures) v (c .before .before .before .before .shape .given .1) (definition-no _ _ _ (c .enum-told .given .1) (c .before .before .find-definition .ensures)))
 
 element-copy-out-find-forward : tie.Need-element-copy-out-find-forward
-element-copy-out-find-forward c = omega (arith, (definition-at _ _ _ (c .before .found .given .1) (c .before .before .before .find-definition .ensures)) .below, c .before .before .before .before .before .before .before .before .before .before .pre .0 .1 .few)
+element-copy-out-find-forward c = omega (arith, (definition-at _ _ _ (c .before .found .given .1) (c .before .before .before .find-definition .ensures)) .below, c .before .before .before .before .before .before .before .before .before .before .before .pre .0 .1 .few)
 
 find-forward-requires : tie.Need-find-forward-requires
-find-forward-requires c κs = (c .before .before .before .before .before .before .before .before .before .before .before .pre .0 .0, (definition-at _ _ _ (c .before .before .found .given .1) (c .before .before .before .before .find-definition .ensures)) .reads, known-at (c .before .before .before .before .before .before .before .before .before .before .before .pre .0 .1) (definition-at _ _ _ (c .before .before .found .given .1) (c .before .before .before .before .find-definition .ensures)))
+find-forward-requires c κs = (c .before .before .before .before .before .before .before .before .before .before .before .before .pre .0 .0, (definition-at _ _ _ (c .before .before .found .given .1) (c .before .before .before .before .find-definition .ensures)) .reads, known-at (c .before .before .before .before .before .before .before .before .before .before .before .before .pre .0 .1) (definition-at _ _ _ (c .before .before .found .given .1) (c .before .before .before .before .find-definition .ensures)))
 
 enum-known-forward : tie.Need-enum-known-forward
 enum-known-forward c = search needs
@@ -56,13 +56,13 @@ returns-4 : tie.Need-returns-4
 returns-4 c = absurd (forward-many (c .before .before .before .before .before .before .find-forward .ensures) (c .before .before .before .before .forward .given .1) (part-other _ (c .enum-told3 .given .1) (c .before .before .field-part .ensures)))
 
 set-chain-requires : tie.Need-set-chain-requires
-set-chain-requires c κs = omega (arith, c .before .before .before .before .before .before .before .before .before .before .before .before .before .before .before .before .before .before .before .before .pre .1 .1)
+set-chain-requires c κs = omega (arith, c .before .before .before .before .before .before .before .before .before .before .before .before .before .before .before .before .before .before .before .before .before .pre .1 .1)
 
 same-length : tie.Need-same-length
 same-length c = search needs
 
 returns-5 : tie.Need-returns-5
-returns-5 c = λ v. field-forward _ _ _ _ _ (c .before .before .before .before .before .before .before .before .before .before .before .before .before .before .before .before .before .before .before .before .shape-at .result) (c .before .before .before .before .before .before .before .before .before .before .before .before .before .before .before .before .before .before .before .before .shape-at .ensures) v (c .before .before .before .before .before .before .before .before .before .before .before .before .before .before .before .before .before .before .shape .given .1) (definition-at _ _ _ (c .before .before .before .before .before .before .before .before .before .before .before .before .before .before .found .given .1) (c .before .before .before .before .before .before .before .before .before .before .before .before .before .before .before .before .find-definition .ensures)) (c .before .before .before .before .before .before .before .before .before .before .before .find-forward .ensures) (c .before .before .before .before .before .before .before .before .before .forward .given .1) (part-is _ (c .before .before .before .before .before .part .given .1) (c .before .before .before .before .before .before .before .field-part .ensures)) (c .before .before .before .before .before .before .before .before .before .before .before .before .before .before .before .before .before .before .before .before .before .before .before .args .list .now) (c .before .before .set-chain .ensures)
+returns-5 c = λ v. field-forward _ _ _ _ _ (c .before .before .before .before .before .before .before .before .before .before .before .before .before .before .before .before .before .before .before .before .shape-at .result) (c .before .before .before .before .before .before .before .before .before .before .before .before .before .before .before .before .before .before .before .before .shape-at .ensures) v (c .before .before .before .before .before .before .before .before .before .before .before .before .before .before .before .before .before .before .shape .given .1) (definition-at _ _ _ (c .before .before .before .before .before .before .before .before .before .before .before .before .before .before .found .given .1) (c .before .before .before .before .before .before .before .before .before .before .before .before .before .before .before .before .find-definition .ensures)) (c .before .before .before .before .before .before .before .before .before .before .before .find-forward .ensures) (c .before .before .before .before .before .before .before .before .before .forward .given .1) (part-is _ (c .before .before .before .before .before .part .given .1) (c .before .before .before .before .before .before .before .field-part .ensures)) (c .before .before .before .before .before .before .before .before .before .before .before .before .before .before .before .before .before .before .before .before .before .before .before .before .args .list .now) (c .before .before .set-chain .ensures)
 
 pub check-field-layout-dependency-spec : {M : Type 1} → statement M
 check-field-layout-dependency-spec =

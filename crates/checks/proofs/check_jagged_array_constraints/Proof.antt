@@ -18,10 +18,10 @@ same-length : tie.Need-same-length
 same-length c = search needs
 
 returns : tie.Need-returns
-returns c = (jagged-kind _ _ _ (c .before .before .before .check-jagged-element-kind .ensures) (c .match .keys2), c .before .before .before .before .before .before .before .pre .1 .1)
+returns c = (jagged-kind _ _ _ (c .before .before .before .check-jagged-element-kind .ensures) (c .match .keys2), c .before .before .before .before .before .before .before .before .pre .1 .1)
 
 type-contains-jagged-array-requires : tie.Need-type-contains-jagged-array-requires
-type-contains-jagged-array-requires c κs = (c .before .before .before .before .before .before .before .before .before .pre .0 .0, c .before .before .before .before .before .before .before .before .before .pre .0 .1, c .before .before .before .before .before .before .before .before .before .pre .1 .0, c .before .before .before .before .before .before .before .before .before .pre .1 .1)
+type-contains-jagged-array-requires c κs = (c .before .before .before .before .before .before .before .before .before .before .pre .0 .0, c .before .before .before .before .before .before .before .before .before .before .pre .0 .1, c .before .before .before .before .before .before .before .before .before .before .pre .1 .0, c .before .before .before .before .before .before .before .before .before .before .pre .1 .1)
 
 same-length-2 : tie.Need-same-length-2
 same-length-2 c = search needs
@@ -30,7 +30,7 @@ returns-2 : tie.Need-returns-2
 returns-2 c = (fine _ _ _ (jagged-fine _ _ _ (c .before .before .before .before .before .before .before .check-jagged-element-kind .ensures) (c .before .before .before .enum-told .given .1) (sym (not-true _ (c .if1 .taken)) ∙ c .before .type-contains-jagged-array .ensures .0)), c .before .type-contains-jagged-array .ensures .1)
 
 set-chain-requires : tie.Need-set-chain-requires
-set-chain-requires c κs = omega (arith, c .before .before .before .before .before .before .before .before .before .before .before .before .pre .0 .2, c .before .before .before .before .before .before .before .before .check-jagged-element-kind .kept .1 .1 .1 .1 .1 .0)
+set-chain-requires c κs = omega (arith, c .before .before .before .before .before .before .before .before .before .before .before .before .before .pre .0 .2, c .before .before .before .before .before .before .before .before .check-jagged-element-kind .kept .1 .1 .1 .1 .1 .0)
 
 same-length-3 : tie.Need-same-length-3
 same-length-3 c = search needs

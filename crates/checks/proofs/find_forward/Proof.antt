@@ -14,7 +14,7 @@ enum-known-step : tie.Need-enum-known-step
 enum-known-step c = search needs
 
 find-forward-reference-requires : tie.Need-find-forward-reference-requires
-find-forward-reference-requires c κs = (c .before .before .before .before .before .pre, (type-bound 24 _ _ _ (omega arith) (sym (c .before .step .given .1) ∙ c .before .before .before .type-at .ensures), type-fits 24 _ _ _ (omega arith) (sym (c .before .step .given .1) ∙ c .before .before .before .type-at .ensures)))
+find-forward-reference-requires c κs = (c .before .before .before .before .before .before .pre, (type-bound 24 _ _ _ (omega arith) (sym (c .before .step .given .1) ∙ c .before .before .before .type-at .ensures), type-fits 24 _ _ _ (omega arith) (sym (c .before .step .given .1) ∙ c .before .before .before .type-at .ensures)))
 
 enum-told : tie.Need-enum-told
 enum-told c = search needs
@@ -23,7 +23,7 @@ returns : tie.Need-returns
 returns c = forward-in _ _ _ _ _ (sym (c .before .before .step .given .1) ∙ c .before .before .before .before .type-at .ensures) (c .find-forward-reference .ensures)
 
 returns-2 : tie.Need-returns-2
-returns-2 c = absurd (definition-reads _ _ _ (c .before .before .before .before .pre .1) (sym (c .enum-told .given .1) ∙ c .before .before .type-at .ensures))
+returns-2 c = absurd (definition-reads _ _ _ (c .before .before .before .before .before .pre .1) (sym (c .enum-told .given .1) ∙ c .before .before .type-at .ensures))
 
 pub find-forward-spec : {M : Type 1} → statement M
 find-forward-spec =

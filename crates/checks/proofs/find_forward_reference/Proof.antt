@@ -18,10 +18,10 @@ abbrev μ-loop : tie.MeasureT-loop
 μ-loop s places layout name j at depends from end next₀ next = end - next
 
 loop-holds : tie.Need-loop-holds Inv-loop μ-loop
-loop-holds c = seeking-start _ _ _ _ _ _ (c .before .pre .1 .1)
+loop-holds c = seeking-start _ _ _ _ _ _ (c .before .before .pre .1 .1)
 
 reference-at-requires : tie.Need-reference-at-requires Inv-loop μ-loop
-reference-at-requires c κs = (c .before .before .before .pre .1 .0, c .before .before .before .pre .0 .0 .small, c .before .loop .inv .fits)
+reference-at-requires c κs = (c .before .before .before .before .pre .1 .0, c .before .before .before .before .pre .0 .0 .small, c .before .loop .inv .fits)
 
 enum-known-reference : tie.Need-enum-known-reference Inv-loop μ-loop
 enum-known-reference c = search needs
@@ -33,7 +33,7 @@ returns : tie.Need-returns Inv-loop μ-loop
 returns c = seeking-none _ _ _ _ _ _ (c .before .before .before .before .loop .inv) (reference-no _ _ _ (c .enum-told .given .1) (c .before .before .reference-at .ensures))
 
 check-forward-reference-requires : tie.Need-check-forward-reference-requires Inv-loop μ-loop
-check-forward-reference-requires c κs = ((c .before .before .before .before .before .before .before .pre .0 .0, (reference-is _ _ _ (c .before .reference .given .1) (c .before .before .before .reference-at .ensures)) .fit), (c .before .before .before .before .before .before .before .pre .0 .1, c .before .before .before .before .before .before .before .pre .0 .2))
+check-forward-reference-requires c κs = ((c .before .before .before .before .before .before .before .before .pre .0 .0, (reference-is _ _ _ (c .before .reference .given .1) (c .before .before .before .reference-at .ensures)) .fit), (c .before .before .before .before .before .before .before .before .pre .0 .1, c .before .before .before .before .before .before .before .before .pre .0 .2))
 
 returns-2 : tie.Need-returns-2 Inv-loop μ-loop
 returns-2 c = seeking-here _ _ _ _ _ _ (c .before .before .before .before .before .before .before .loop .inv) (reference-is _ _ _ (c .before .before .before .reference .given .1) (c .before .before .before .before .before .reference-at .ensures)) (sym (c .if1 .taken) ∙ c .before .check-forward-reference .ensures)

@@ -2,17 +2,31 @@
 use borrow.Author.Needs.{needs}
 use Rattle.checks.proofs.find_layout_dependency_chain.Statement.{statement}
 use Rattle.checks.proofs.find_layout_dependency_chain.Tie as tie
-use native.Mathlib.Omega.{arith}
 use Rattle.checks.proofs.ChainChecks.{found-chain}
 
-find-chain-at-requires : tie.Need-find-chain-at-requires
-find-chain-at-requires c κs = record { few = c .before .before .before .pre .few; lie = omega (arith, c .before .before .before .pre .from .end, c .before .before .before .pre .edges) }
+search-requires : tie.Need-search-requires
+search-requires c κs = ((_, c .before .before .before .before .before .before .before .before .before .before .before .before .before .before .pre .0 .0), c .before .before .before .before .before .before .before .before .before .before .before .before .before .before .pre .0 .1)
 
 same-length : tie.Need-same-length
 same-length c = search needs
 
+same-length-2 : tie.Need-same-length-2
+same-length-2 c = search needs
+
+same-length-3 : tie.Need-same-length-3
+same-length-3 c = search needs
+
+same-length-4 : tie.Need-same-length-4
+same-length-4 c = search needs
+
 returns : tie.Need-returns
-returns c = found-chain (c .before .before .before .before .before .before .pre) _ _ (c .before .before .find-chain-at .ensures)
+returns c = found-chain (c .before .before .before .before .before .before .before .before .before .before .before .before .before .before .before .before .before .before .before .before .before .before .before .pre .1) _ _ (c .before .before .before .before .before .before .before .before .search .ensures _ (c .before .before .before .before .before .before .before .before .before .before .before .before .before .before .before .before .before .before .before .before .before .before .before .pre .0 .0))
 
 pub find-layout-dependency-chain-spec : {M : Type 1} → statement M
-find-layout-dependency-chain-spec = tie.close (tie.spec find-chain-at-requires same-length returns)
+find-layout-dependency-chain-spec = tie.close (tie.spec
+    search-requires
+    same-length
+    same-length-2
+    same-length-3
+    same-length-4
+    returns)

@@ -23,4 +23,9 @@ returns c = set-three (c .args .list .now) _ _ _ (c .pre)
 
 pub set-chain-spec : {M : Type 1} → statement M
 set-chain-spec =
-    tie.close (tie.spec slice-write-list slice-write-list-2 slice-write-list-3 same-length returns)
+    tie.close (tie.spec
+    slice-write-list
+    slice-write-list-2
+    slice-write-list-3
+    same-length
+    returns)

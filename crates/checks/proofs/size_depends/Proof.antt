@@ -19,10 +19,10 @@ returns : tie.Need-returns
 returns c = known-none _ _ (definition-no _ _ _ (c .enum-told .given .1) (c .before .before .find-definition .ensures))
 
 element-copy-out-result : tie.Need-element-copy-out-result
-element-copy-out-result c = omega (arith, (definition-at _ _ _ (c .before .found .given .1) (c .before .before .before .find-definition .ensures)) .below, c .before .before .before .before .before .pre .1 .few)
+element-copy-out-result c = omega (arith, (definition-at _ _ _ (c .before .found .given .1) (c .before .before .before .find-definition .ensures)) .below, c .before .before .before .before .before .before .pre .1 .few)
 
 returns-2 : tie.Need-returns-2
-returns-2 c = known-is (c .before .before .before .before .before .before .pre .1) (definition-at _ _ _ (c .before .before .found .given .1) (c .before .before .before .before .find-definition .ensures))
+returns-2 c = known-is (c .before .before .before .before .before .before .before .pre .1) (definition-at _ _ _ (c .before .before .found .given .1) (c .before .before .before .before .find-definition .ensures))
 
 pub size-depends-spec : {M : Type 1} → statement M
 size-depends-spec =

@@ -15,9 +15,9 @@ bound : (c : tie.After-shared-slice-known) → Bytes (c .before .args .bundle .n
 bound c = λ i. omega (arith, c .shared-slice-known .given i)
 
 -- and is accepted once it was opened
-accepted : (c : tie.After-enum-told) → Accepted (c .before .before .before .before .before .before .before .before .args .bundle .now)
+accepted : (c : tie.After-enum-told) → Accepted (c .before .before .before .before .before .before .before .before .before .args .bundle .now)
 accepted c =
-    opened-accepted (bound (c .before .before .before .before .before .before .before))
+    opened-accepted (bound (c .before .before .before .before .before .before .before .before))
     (opened-layout _ _ _ _ (c .before .before .before .before .«open» .ensures) (c .enum-told .given .1))
 
 open-requires : tie.Need-open-requires
