@@ -26,4 +26,10 @@ returns-2 c = c .u16-at .ensures ∙ path-name _ _ _ _ (c .before .before .befor
 
 pub name-of-spec : {M : Type 1} → statement M
 name-of-spec =
-    tie.close (tie.spec returns add-u16-at mul-u16-at add-u16-at-2 u16-at-requires returns-2)
+    tie.close (tie.spec
+    returns
+    add-u16-at
+    mul-u16-at
+    add-u16-at-2
+    u16-at-requires
+    returns-2)

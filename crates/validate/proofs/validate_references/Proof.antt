@@ -10,20 +10,20 @@ use Rattle.sizes.proofs.ScanLaws.{nothing-left}
 use Rattle.checks.proofs.ForwardChecks.{reference-is, reference-no}
 use Rattle.violation.proofs.Putting.{puts-size}
 use Rattle.validate.specs.Validating.{checkReference}
-use Rattle.validate.proofs.Writing.{Referencing, referencing-start, referencing-room, referencing-next, referencing-end}
+use Rattle.validate.proofs.Writing.{Lent, lent-start, lent-next, lent-workspace, Referencing, referencing-start, referencing-room, referencing-next, referencing-end}
 
 abbrev Inv-loop : tie.InvT-loop
-Inv-loop s places layout known tag at end list₀ out₀ i name next₀ reached₀ list out next reached =
-    Referencing s (checkReference tag (bundleOf s) i name) at end list₀ out₀ reached₀ list out next reached
+Inv-loop s places layout known tag at end names table ends first links m queue₀ parents₀ marks₀ list₀ out₀ i name next₀ reached₀ queue parents marks list out next reached =
+    Lent queue₀ parents₀ marks₀ queue parents marks × Referencing s (checkReference tag (bundleOf s) i name) at end list₀ out₀ reached₀ list out next reached
 
 abbrev μ-loop : tie.MeasureT-loop
-μ-loop s places layout known tag at end list₀ out₀ i name next₀ reached₀ list out next reached = end - next
+μ-loop s places layout known tag at end names table ends first links m queue₀ parents₀ marks₀ list₀ out₀ i name next₀ reached₀ queue parents marks list out next reached = end - next
 
 loop-holds : tie.Need-loop-holds Inv-loop μ-loop
-loop-holds c = referencing-start _ _ _ _ _ _ _ (c .before .before .before .pre .1 .0 .2) (c .before .before .before .pre .1 .1)
+loop-holds c = (lent-start, referencing-start _ _ _ _ _ _ _ (c .before .before .before .before .before .before .before .before .before .before .before .before .pre .1 .1 .0 .2) (c .before .before .before .before .before .before .before .before .before .before .before .before .pre .1 .1 .1))
 
 reference-at-requires : tie.Need-reference-at-requires Inv-loop μ-loop
-reference-at-requires c κs = (c .before .before .before .before .before .pre .1 .0 .1, c .before .before .before .before .before .pre .0 .0 .small, (c .before .loop .inv) .fits)
+reference-at-requires c κs = (c .before .before .before .before .before .before .before .before .before .before .before .before .before .before .pre .1 .1 .0 .1, c .before .before .before .before .before .before .before .before .before .before .before .before .before .before .pre .1 .0 .0 .small, (c .before .loop .inv .1) .fits)
 
 enum-known-reference : tie.Need-enum-known-reference Inv-loop μ-loop
 enum-known-reference c = search needs
@@ -32,34 +32,52 @@ enum-told : tie.Need-enum-told Inv-loop μ-loop
 enum-told c = search needs
 
 same-length : tie.Need-same-length Inv-loop μ-loop
-same-length c = (c .before .before .before .before .loop .inv) .list-size
+same-length c = c .before .before .before .before .loop .inv .0 .queues
 
 same-length-2 : tie.Need-same-length-2 Inv-loop μ-loop
-same-length-2 c = (c .before .before .before .before .loop .inv) .going .size
+same-length-2 c = c .before .before .before .before .loop .inv .0 .parented
 
 returns : tie.Need-returns Inv-loop μ-loop
-returns c = referencing-end (c .before .before .before .before .loop .inv) (reference-no _ _ _ (c .enum-told .given .1) (c .before .before .reference-at .ensures))
+returns c = referencing-end (c .before .before .before .before .loop .inv .1) (reference-no _ _ _ (c .enum-told .given .1) (c .before .before .reference-at .ensures))
 
 check-reference-requires : tie.Need-check-reference-requires Inv-loop μ-loop
-check-reference-requires c κs = ((c .before .before .before .before .before .before .before .before .before .before .pre .0 .0, c .before .before .before .before .before .before .before .before .before .before .pre .0 .1), ((reference-is _ _ _ (c .before .before .reference .given .1) (c .before .before .before .before .reference-at .ensures)) .fit, omega (arith, c .before .before .before .before .before .before .before .before .before .before .pre .1 .0 .0, (c .before .before .before .before .before .before .loop .inv) .list-size)))
+check-reference-requires c κs = ((c .before .before .before .before .before .before .before .before .before .before .before .before .before .before .before .before .before .before .before .before .before .before .pre .0 .0, lent-workspace (c .before .before .before .before .before .before .before .before .before .loop .inv .0) (c .before .before .before .before .before .before .before .before .before .before .before .before .before .before .before .before .before .before .before .before .before .before .pre .0 .1)), ((c .before .before .before .before .before .before .before .before .before .before .before .before .before .before .before .before .before .before .before .before .before .before .pre .1 .0 .0, c .before .before .before .before .before .before .before .before .before .before .before .before .before .before .before .before .before .before .before .before .before .before .pre .1 .0 .1), ((reference-is _ _ _ (c .before .before .before .before .before .reference .given .1) (c .before .before .before .before .before .before .before .reference-at .ensures)) .fit, omega (arith, c .before .before .before .before .before .before .before .before .before .before .before .before .before .before .before .before .before .before .before .before .before .before .pre .1 .1 .0 .0, (c .before .before .before .before .before .before .before .before .before .loop .inv .1) .list-size))))
 
 put-check-requires : tie.Need-put-check-requires Inv-loop μ-loop
-put-check-requires c κs = ((c .before .before .before .before .before .before .before .before .before .before .before .before .before .before .before .pre .0 .2, c .before .before .before .before .check-reference .ensures .fits), referencing-room (c .before .before .before .before .before .before .before .before .before .before .before .loop .inv) (reference-is _ _ _ (c .before .before .before .before .before .before .before .reference .given .1) (c .before .before .before .before .before .before .before .before .before .reference-at .ensures)) _ (c .before .before .before .before .check-reference .ensures .means _))
+put-check-requires c κs = ((c .before .before .before .before .before .before .before .before .before .before .before .before .before .before .before .before .before .before .before .before .before .before .before .before .before .before .before .before .before .before .before .before .before .pre .1 .0 .2, c .before .before .before .before .before .before .before .before .before .before .check-reference .ensures .fits), referencing-room (c .before .before .before .before .before .before .before .before .before .before .before .before .before .before .before .before .before .before .before .before .loop .inv .1) (reference-is _ _ _ (c .before .before .before .before .before .before .before .before .before .before .before .before .before .before .before .before .reference .given .1) (c .before .before .before .before .before .before .before .before .before .before .before .before .before .before .before .before .before .before .reference-at .ensures)) _ (c .before .before .before .before .before .before .before .before .before .before .check-reference .ensures .means _))
 
 loop-less : tie.Need-loop-less Inv-loop μ-loop
-loop-less c = omega (arith, (reference-is _ _ _ (c .before .before .before .before .before .before .before .before .before .before .reference .given .1) (c .before .before .before .before .before .before .before .before .before .before .before .before .reference-at .ensures)) .forward)
+loop-less c = omega (arith, (reference-is _ _ _ (c .before .before .before .before .before .before .before .before .before .before .before .before .before .before .before .before .before .before .before .reference .given .1) (c .before .before .before .before .before .before .before .before .before .before .before .before .before .before .before .before .before .before .before .before .before .reference-at .ensures)) .forward)
 
 loop-again : tie.Need-loop-again Inv-loop μ-loop
-loop-again c = referencing-next (c .before .before .before .before .before .before .before .before .before .before .before .before .before .before .loop .inv) (reference-is _ _ _ (c .before .before .before .before .before .before .before .before .before .before .reference .given .1) (c .before .before .before .before .before .before .before .before .before .before .before .before .reference-at .ensures)) _ (c .before .before .before .before .before .before .before .check-reference .ensures .means _) (c .before .before .before .before .before .before .before .check-reference .kept .1 .1 .1 .1 .1 .1 .1 .0) (c .before .before .put-check .ensures)
+loop-again c = (lent-next (c .before .before .before .before .before .before .before .before .before .before .before .before .before .before .before .before .before .before .before .before .before .before .before .loop .inv .0) (c .before .before .before .before .before .before .before .before .before .before .before .before .before .check-reference .kept .1 .1 .1 .1 .1 .1 .1 .1 .1 .1 .1 .1 .1 .0) (c .before .before .before .before .before .before .before .before .before .before .before .before .before .check-reference .kept .1 .1 .1 .1 .1 .1 .1 .1 .1 .1 .1 .1 .1 .1 .0) (c .before .before .before .before .before .before .before .before .before .before .before .before .before .check-reference .kept .1 .1 .1 .1 .1 .1 .1 .1 .1 .1 .1 .1 .1 .1 .1 .0), referencing-next (c .before .before .before .before .before .before .before .before .before .before .before .before .before .before .before .before .before .before .before .before .before .before .before .loop .inv .1) (reference-is _ _ _ (c .before .before .before .before .before .before .before .before .before .before .before .before .before .before .before .before .before .before .before .reference .given .1) (c .before .before .before .before .before .before .before .before .before .before .before .before .before .before .before .before .before .before .before .before .before .reference-at .ensures)) _ (c .before .before .before .before .before .before .before .before .before .before .before .before .before .check-reference .ensures .means _) (c .before .before .before .before .before .before .before .before .before .before .before .before .before .check-reference .kept .1 .1 .1 .1 .1 .1 .1 .1 .1 .1 .1 .1 .1 .1 .1 .1 .0) (c .before .before .put-check .ensures))
+
+same-length-6 : tie.Need-same-length-6 Inv-loop μ-loop
+same-length-6 c = c .before .loop .inv .0 .queues
+
+same-length-7 : tie.Need-same-length-7 Inv-loop μ-loop
+same-length-7 c = c .before .loop .inv .0 .parented
+
+same-length-8 : tie.Need-same-length-8 Inv-loop μ-loop
+same-length-8 c = c .before .loop .inv .0 .marked
+
+same-length-9 : tie.Need-same-length-9 Inv-loop μ-loop
+same-length-9 c = (c .before .loop .inv .1) .list-size
+
+same-length-10 : tie.Need-same-length-10 Inv-loop μ-loop
+same-length-10 c = (c .before .loop .inv .1) .going .size
 
 same-length-3 : tie.Need-same-length-3 Inv-loop μ-loop
-same-length-3 c = (c .before .loop .inv) .list-size
+same-length-3 c = c .before .before .before .before .loop .inv .0 .marked
 
 same-length-4 : tie.Need-same-length-4 Inv-loop μ-loop
-same-length-4 c = (c .before .loop .inv) .going .size
+same-length-4 c = (c .before .before .before .before .loop .inv .1) .list-size
+
+same-length-5 : tie.Need-same-length-5 Inv-loop μ-loop
+same-length-5 c = (c .before .before .before .before .loop .inv .1) .going .size
 
 returns-2 : tie.Need-returns-2 Inv-loop μ-loop
-returns-2 c = referencing-end (c .before .loop .inv) (nothing-left _ _ _ (omega arith))
+returns-2 c = referencing-end (c .before .loop .inv .1) (nothing-left _ _ _ (omega arith))
 
 pub validate-references-spec : {M : Type 1} → statement M
 validate-references-spec =
@@ -73,11 +91,17 @@ validate-references-spec =
     enum-told
     same-length
     same-length-2
+    same-length-3
+    same-length-4
+    same-length-5
     returns
     check-reference-requires
     put-check-requires
     loop-less
     loop-again
-    same-length-3
-    same-length-4
+    same-length-6
+    same-length-7
+    same-length-8
+    same-length-9
+    same-length-10
     returns-2)

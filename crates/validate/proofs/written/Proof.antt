@@ -12,4 +12,6 @@ returns : tie.Need-returns
 returns c = (ap (λ p. recordWith (c .before .before .args .kind) p (c .before .before .args .size)) (c .read-path .ensures .0), c .read-path .ensures .1)
 
 pub written-spec : {M : Type 1} → statement M
-written-spec = tie.close (tie.spec read-path-requires returns)
+written-spec = tie.close (tie.spec
+    read-path-requires
+    returns)
