@@ -556,7 +556,13 @@ fn answer_for(found: Found, size: usize) -> bundle::Answer
 }
 
 // The chain from `from` to `to` over the edges of a bundle, into the first places of `list`, with a lent list of places.
-fn chain_in(bytes: &[u8], places: &mut [u16], from: u16, to: u16, list: &mut [u16]) -> bundle::Answer
+fn chain_in(
+    bytes: &[u8],
+    places: &mut [u16],
+    from: u16,
+    to: u16,
+    list: &mut [u16],
+) -> bundle::Answer
     requires { ⌜ 256 ≤ length (now places) ⌝ }
     ensures { λ r. ⌜ Call (chaining from to (now (bytes .entry))) (now (list .entry)) (now (list .exit)) (answerMeant r) ⌝ }
 {

@@ -5,8 +5,8 @@ use bundle::Opening;
 use validate::Position;
 ghost use mathlib.Core.Path.{_≡_};
 ghost use mathlib.Core.Bool.{true, false};
-ghost use Prim.Native.Nat.{_≤_};
-ghost use lib.ListN.{length};
+ghost use Prim.Native.Nat.{_-_, _≤_};
+ghost use lib.ListN.{length, take, drop};
 ghost use Rattle.meaning.specs.Calls.{Call, result};
 ghost use Rattle.meaning.specs.Circle.{circles};
 ghost use Rattle.meaning.specs.Encoding.{Bytes};
@@ -19,6 +19,7 @@ ghost use Rattle.bundle.specs.Opened.{LayoutOf, answerMeant};
 ghost use Rattle.sizes.specs.Tests.{Acyclic, Kept, markOf};
 ghost use Rattle.chain.specs.Index.{Room, Workspace};
 ghost use Rattle.checks.specs.Checks.{EdgesPrepared, Known};
+ghost use Rattle.violation.specs.Records.{Puts};
 
 // How the answer of a size test is noted.
 fn mark_of(depends: bool) -> u8
@@ -37,6 +38,17 @@ fn note_sizes(s: &[u8], places: &[u16], count: usize, kept: &mut [u8; 256], know
         let depends = sizes::type_size_depends_on_field_refs(s, places, count, kept, i);
         known[i] = mark_of(depends);
         i += 1;
+    }
+}
+
+// Copies the places from 3 to `end` of a draft.
+fn copy_records(draft: &[u8], end: usize, out: &mut [u8])
+    requires { ⌜ (3 ≤ end) × (end ≤ length (now draft)) × (end ≤ 1024) ⌝ }
+    ensures { λ _. ⌜ Puts (take (end - 3) (drop 3 (now (draft .entry)))) (now (out .entry)) 3 (now (out .exit)) end ⌝ }
+{
+    let mut at = 3;
+    while at < end {
+        at = violation::put_byte(out, at, draft[at]);
     }
 }
 
@@ -68,7 +80,7 @@ fn write_report(
     ensures { λ r. ⌜ Call (result (report (bundleOf (now (s .entry))))) (now (out .entry)) (now (out .exit)) (answerMeant r) ⌝ }
 {
     let start = Position { at: 3, count: 0 };
-    let mut nowhere = [0u8; 1];
+    let mut draft = [0u8; 1024];
     let counted = validate::validate_layout_constraints(
         s,
         places,
@@ -86,7 +98,7 @@ fn write_report(
         parents,
         marks,
         list,
-        &mut nowhere,
+        &mut draft,
         start,
     );
     if out.len() < counted.at {
@@ -94,6 +106,10 @@ fn write_report(
     }
     let second = violation::put_byte(out, 0, 0x70);
     violation::put_two(out, second, counted.count as u16);
+    if counted.at <= 1024 {
+        copy_records(&draft, counted.at, out);
+        return Answer::Accepted(counted.at);
+    }
     let written = validate::validate_layout_constraints(
         s,
         places,

@@ -1,43 +1,44 @@
--- `report::report` meets its contract: what the bytes are refused for, or the report of the bundle that they are.
+-- `report::report` meets its contract.
 use borrow.Author.Needs.{needs}
 use Rattle.report.proofs.report.Statement.{statement}
 use Rattle.report.proofs.report.Tie as tie
-use Rattle.bundle.proofs.AnswerLaws.{opened-layout, opened-refused}
-use Rattle.chain.proofs.Called.{turned-down}
-use Rattle.report.proofs.Reporting.{called}
-use Rattle.meaning.specs.Due.{reporting}
+use Prim.Native.Nat.{ℕ}
+use native.Mathlib.Omega.{arith}
+use lib.ListN.{length-replicate}
 
-open-requires : tie.Need-open-requires
-open-requires c κs = search needs
+slice-aggregate-report-in : tie.Need-slice-aggregate-report-in
+slice-aggregate-report-in c = search needs
 
-enum-known-opening : tie.Need-enum-known-opening
-enum-known-opening c = search needs
-
-report-opened-requires : tie.Need-report-opened-requires
-report-opened-requires c κs = opened-layout _ _ _ _ (c .before .before .before .before .before .«open» .ensures) (c .before .before .before .opening .given .1)
-
-enum-known-opening-2 : tie.Need-enum-known-opening-2
-enum-known-opening-2 c = search needs
+report-in-requires : tie.Need-report-in-requires
+report-in-requires c κs = omega (arith, length-replicate {A = ℕ} 256 0)
 
 same-length : tie.Need-same-length
 same-length c = search needs
 
 returns : tie.Need-returns
-unfolding reporting
-returns c = let o = opened-layout _ _ _ _ (c .before .before .before .before .before .before .before .before .«open» .ensures) (c .before .before .before .before .before .before .opening .given .1) in called (o .0) (o .1) (c .before .before .report-opened .ensures)
+returns c = c .before .before .before .report-in .ensures
+
+slice-aggregate-report-in-2 : tie.Need-slice-aggregate-report-in-2
+slice-aggregate-report-in-2 c = search needs
+
+report-in-requires-2 : tie.Need-report-in-requires-2
+report-in-requires-2 c κs = omega (arith, length-replicate {A = ℕ} 65792 0)
+
+same-length-2 : tie.Need-same-length-2
+same-length-2 c = search needs
 
 returns-2 : tie.Need-returns-2
-unfolding reporting
-returns-2 c = turned-down _ (opened-refused _ _ _ _ (c .before .before .before .«open» .ensures) (c .before .opening2 .given .1) _)
+returns-2 c = c .before .before .before .report-in2 .ensures
 
 pub report-spec : {M : Type 1} → statement M
 report-spec =
     tie.close
     (tie.spec
-    open-requires
-    enum-known-opening
-    report-opened-requires
-    enum-known-opening-2
+    slice-aggregate-report-in
+    report-in-requires
     same-length
     returns
+    slice-aggregate-report-in-2
+    report-in-requires-2
+    same-length-2
     returns-2)
