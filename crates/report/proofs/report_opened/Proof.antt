@@ -3,7 +3,6 @@ use borrow.Author.Needs.{needs}
 use Rattle.report.proofs.report_opened.Statement.{statement}
 use Rattle.report.proofs.report_opened.Tie as tie
 
-
 report-few-requires : tie.Need-report-few-requires
 report-few-requires c κs = (c .before .if1 .taken, c .before .before .before .before .before .before .pre)
 
