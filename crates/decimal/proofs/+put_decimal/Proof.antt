@@ -41,7 +41,7 @@ put-decimal-add-put : Ask-put-decimal put-decimal-lts.Need-add-put
 put-decimal-add-put t c = search needs
 
 put-decimal-put-requires : Ask-put-decimal put-decimal-lts.Need-put-requires
-put-decimal-put-requires t c κs = omega (arith, ap length (decimal-one _ (c .before .if1 .taken)), (c .before .before .before) .pre .1)
+put-decimal-put-requires t c κs = omega (arith, ap length (decimal-one _ (c .before .if1 .taken)), c .before .before .before .pre .1)
 
 put-decimal-same-length : Ask-put-decimal put-decimal-lts.Need-same-length
 put-decimal-same-length t c = search needs
@@ -50,7 +50,7 @@ put-decimal-returns : Ask-put-decimal put-decimal-lts.Need-returns
 put-decimal-returns t c = rw (decimal-one _ (c .before .before .before .before .if1 .taken)) (c .before .before .put .ensures)
 
 put-decimal-put-decimal-requires : Ask-put-decimal put-decimal-lts.Need-put-decimal-requires
-put-decimal-put-decimal-requires t c κs = (omega (arith, (c .before .before .before) .pre .0), omega (arith, decimal-last _ (c .before .if1 .left), (c .before .before .before) .pre .1))
+put-decimal-put-decimal-requires t c κs = (omega (arith, c .before .before .before .pre .0), omega (arith, decimal-last _ (c .before .if1 .left), c .before .before .before .pre .1))
 
 put-decimal-cast-put-2 : Ask-put-decimal put-decimal-lts.Need-cast-put-2
 put-decimal-cast-put-2 t c = search needs
@@ -59,7 +59,7 @@ put-decimal-add-put-2 : Ask-put-decimal put-decimal-lts.Need-add-put-2
 put-decimal-add-put-2 t c = search needs
 
 put-decimal-put-requires-2 : Ask-put-decimal put-decimal-lts.Need-put-requires-2
-put-decimal-put-requires-2 t c κs = omega (arith, writes-end (c .before .before .before .put-decimal .ensures) (omega (arith, (c .before .before .before .before .before .before .before) .pre .1)), c .before .before .before .put-decimal .kept, decimal-last _ (c .before .before .before .before .before .if1 .left), (c .before .before .before .before .before .before .before) .pre .1)
+put-decimal-put-requires-2 t c κs = omega (arith, writes-end (c .before .before .before .put-decimal .ensures) (omega (arith, c .before .before .before .before .before .before .before .pre .1)), c .before .before .before .put-decimal .kept, decimal-last _ (c .before .before .before .before .before .if1 .left), c .before .before .before .before .before .before .before .pre .1)
 
 put-decimal-same-length-2 : Ask-put-decimal put-decimal-lts.Need-same-length-2
 put-decimal-same-length-2 t c = search needs

@@ -22,7 +22,7 @@ shared-slice-read-put-line : tie.Need-shared-slice-read-put-line Inv-loop μ-loo
 shared-slice-read-put-line c = search needs
 
 put-line-requires : tie.Need-put-line-requires Inv-loop μ-loop
-put-line-requires c κs = omega (arith, c .before .before .before .loop .inv .far, c .before .before .before .loop .inv .size, (c .before .before .before .before .before .before) .pre .1)
+put-line-requires c κs = omega (arith, c .before .before .before .loop .inv .far, c .before .before .before .loop .inv .size, c .before .before .before .before .before .before .pre .1)
 
 add-i : tie.Need-add-i Inv-loop μ-loop
 add-i c = search needs
@@ -31,7 +31,7 @@ loop-less : tie.Need-loop-less Inv-loop μ-loop
 loop-less c = search needs
 
 loop-again : tie.Need-loop-again Inv-loop μ-loop
-loop-again c = listing-next (c .before .before .before .before .before .before .loop .inv) (c .before .before .before .before .before .loop-test .taken) ((c .before .before .before .before .before .before .before .before .before) .pre .0) (omega (arith, c .before .before .before .shared-slice-known2 .given (c .before .before .before .before .before .before .loop .i))) (c .before .before .put-line .ensures) (c .before .before .put-line .kept .0)
+loop-again c = listing-next (c .before .before .before .before .before .before .loop .inv) (c .before .before .before .before .before .loop-test .taken) (c .before .before .before .before .before .before .before .before .before .pre .0) (omega (arith, c .before .before .before .shared-slice-known2 .given (c .before .before .before .before .before .before .loop .i))) (c .before .before .put-line .ensures) (c .before .before .put-line .kept .0)
 
 same-length : tie.Need-same-length Inv-loop μ-loop
 same-length c = c .before .loop .inv .size
