@@ -1,7 +1,7 @@
 -- Words ask for one thing only.
 use Prim.Native.Nat.{ℕ}
 use native.Mathlib.Omega.{arith}
-use mathlib.Core.List.{List, [], _∷_}
+use mathlib.Core.List.{List, []}
 use mathlib.Core.Path.{_≡_, refl, sym, ap, ap₂, subst, _∙_}
 use lib.ListN.{length, getD}
 use Rattle.decimal.specs.Decimal.{Says}

@@ -21,7 +21,7 @@ slice-aggregate-write-names : tie.Need-slice-aggregate-write-names
 slice-aggregate-write-names c = search needs
 
 write-names-requires : tie.Need-write-names-requires
-write-names-requires c κs = let n = accepted-within _ (c .before .before .before .before .before .before .find-layout-dependency-chain .ensures) (c .before .before .before .answer .given .1) in (n, omega (arith, n, c .before .before .before .before .before .before .find-layout-dependency-chain .kept .1 .1 .1 .0, length-replicate {A = ℕ} 1025 0, c .before .before .before .before .before .before .before .before .before .before .pre))
+write-names-requires c κs = let n = accepted-within _ (c .before .before .before .before .before .before .find-layout-dependency-chain .ensures) (c .before .before .before .answer .given .1) in (omega arith, omega (arith, c .before .before .before .before .before .before .find-layout-dependency-chain .kept .1 .1 .1 .0, length-replicate {A = ℕ} 1025 0, c .before .before .before .before .before .before .before .before .before .before .pre))
 
 enum-known-answer-2 : tie.Need-enum-known-answer-2
 enum-known-answer-2 c = search needs
