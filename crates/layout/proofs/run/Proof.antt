@@ -1,7 +1,7 @@
--- `layout::main` meets its contract: what it writes lies within its buffer.
+-- `layout::run` meets its contract: what it writes lies within its buffer. Assumes nothing.
 use borrow.Author.Needs.{needs}
-use Rattle.layout.proofs.main.Statement.{statement}
-use Rattle.layout.proofs.main.Tie as tie
+use Rattle.layout.proofs.run.Statement.{statement}
+use Rattle.layout.proofs.run.Tie as tie
 use mathlib.Core.Path.{sym}
 use lib.Seq.{length-take-le}
 
@@ -20,20 +20,20 @@ large-buffer-requires c κs = search needs
 array-share-prefix-input : tie.Need-array-share-prefix-input
 array-share-prefix-input c = search needs
 
-slice-aggregate-respond : tie.Need-slice-aggregate-respond
-slice-aggregate-respond c = search needs
+slice-aggregate-answer : tie.Need-slice-aggregate-answer
+slice-aggregate-answer c = search needs
 
-slice-aggregate-respond-2 : tie.Need-slice-aggregate-respond-2
-slice-aggregate-respond-2 c = search needs
+slice-aggregate-answer-2 : tie.Need-slice-aggregate-answer-2
+slice-aggregate-answer-2 c = search needs
 
-respond-requires : tie.Need-respond-requires
-respond-requires c κs = search needs
+answer-requires : tie.Need-answer-requires
+answer-requires c κs = search needs
 
 array-share-prefix-out : tie.Need-array-share-prefix-out
 array-share-prefix-out c = search needs
 
 slice-aggregate-write-all : tie.Need-slice-aggregate-write-all
-slice-aggregate-write-all c = sym (length-take-le _ _ (c .before .before .respond .ensures .0))
+slice-aggregate-write-all c = sym (length-take-le _ _ (c .before .before .answer .ensures .within))
 
 write-all-requires : tie.Need-write-all-requires
 write-all-requires c κs = search needs
@@ -41,8 +41,8 @@ write-all-requires c κs = search needs
 returns : tie.Need-returns
 returns c = search needs
 
-pub main-spec : {M : Type 1} → statement M
-main-spec =
+pub run-spec : {M : Type 1} → statement M
+run-spec =
     tie.close
     (tie.spec
     input-buffer-requires
@@ -50,9 +50,9 @@ main-spec =
     read-full-requires
     large-buffer-requires
     array-share-prefix-input
-    slice-aggregate-respond
-    slice-aggregate-respond-2
-    respond-requires
+    slice-aggregate-answer
+    slice-aggregate-answer-2
+    answer-requires
     array-share-prefix-out
     slice-aggregate-write-all
     write-all-requires

@@ -1,0 +1,62 @@
+-- Laws of decimal text.
+use Prim.Native.Nat.{ℕ, zero, suc, _+_, _*_, _/_, _%_, _≤_, _<_}
+use native.Mathlib.Omega.{arith}
+use mathlib.Core.Bool.{Bool, true, false, cond}
+use mathlib.Core.List.{List, [], _∷_, _++_, append-assoc}
+use mathlib.Core.Path.{_≡_, refl, sym, ap, _∙_}
+use lib.Dec.{ltb}
+use native.Mathlib.Decide.{decLt}
+use lib.ListN.{length, length-append}
+use borrow.Author.Tests.{lt-ltb, le-ltb, ltb-false}
+use Rattle.decimal.specs.Decimal.{digitsOf, decimal, lines}
+
+-- more places for digits than there are change nothing
+digits-same : (k l n : ℕ) → n < k → n < l → digitsOf k n ≡ digitsOf l n
+unfolding digitsOf
+digits-same zero l n h m = absurd (omega arith)
+digits-same (suc k) zero n h m = absurd (omega arith)
+digits-same (suc k) (suc l) n h m = go (ltb n 10) refl (λ f g. digits-same k l (n / 10) f g)
+  where
+    go : (t : Bool) → ltb n 10 ≡ t → (n / 10 < k → n / 10 < l → digitsOf k (n / 10) ≡ digitsOf l (n / 10))
+        → cond t ((48 + n) ∷ []) (digitsOf k (n / 10) ++ (48 + n % 10) ∷ []) ≡ cond t ((48 + n) ∷ []) (digitsOf l (n / 10) ++ (48 + n % 10) ∷ [])
+    go true e same = refl
+    go false e same = let more = ltb-false n 10 e in ap (λ ds. ds ++ (48 + n % 10) ∷ []) (same (omega arith) (omega arith))
+
+-- below ten
+pub decimal-one : (n : ℕ) → n < 10 → decimal n ≡ (48 + n) ∷ []
+unfolding decimal digitsOf
+decimal-one n h = rw (lt-ltb n 10 h)
+
+-- from ten on
+pub decimal-more : (n : ℕ) → 10 ≤ n → decimal n ≡ decimal (n / 10) ++ (48 + n % 10) ∷ []
+unfolding decimal digitsOf
+decimal-more n h = rw (le-ltb n 10 h) (ap (λ ds. ds ++ (48 + n % 10) ∷ []) (digits-same n (suc (n / 10)) (n / 10) (omega arith) (omega arith)))
+
+pub decimal-last : (n : ℕ) → 10 ≤ n → length (decimal n) ≡ length (decimal (n / 10)) + 1
+decimal-last n h = ap length (decimal-more n h) ∙ length-append (decimal (n / 10)) ((48 + n % 10) ∷ [])
+
+-- a name takes at most five digits, one at least
+abbrev below : ℕ → ℕ
+below zero = 1
+below (suc k) = 10 * below k
+
+decimal-size : (k n : ℕ) → n < below (suc k) → length (decimal n) ≤ suc k
+decimal-size zero n h = omega (arith, ap length (decimal-one n (omega arith)))
+decimal-size (suc k) n h = go (decLt n 10) (λ p. decimal-size k (n / 10) p)
+  where
+    go : Dec (n < 10) → (n / 10 < below (suc k) → length (decimal (n / 10)) ≤ suc k) → length (decimal n) ≤ suc (suc k)
+    go (yes p) s = omega (arith, ap length (decimal-one n p))
+    go (no p) s = omega (arith, s (omega arith), decimal-last n (omega arith))
+
+pub name-size : (n : ℕ) → n < 65536 → length (decimal n) ≤ 5
+name-size n h = decimal-size 4 n (omega arith)
+
+-- a name's line, and the lines of more names
+pub line-size : (n : ℕ) → n < 65536 → length (lines (n ∷ [])) ≤ 6
+unfolding lines
+line-size n h = omega (arith, name-size n h, length-append (decimal n) (10 ∷ []))
+
+pub lines-append : (ns ms : List ℕ) → lines (ns ++ ms) ≡ lines ns ++ lines ms
+unfolding lines
+lines-append [] ms = refl
+lines-append (n ∷ ns) ms = ap (λ l. decimal n ++ 10 ∷ l) (lines-append ns ms) ∙ sym (append-assoc (decimal n) (10 ∷ lines ns) (lines ms))

@@ -1,0 +1,83 @@
+// Names as decimal text: written to lines, and read from a word.
+ghost use mathlib.Core.List.{[], _∷_};
+ghost use Prim.Native.Nat.{_+_, _*_, _≤_, _<_};
+ghost use lib.ListN.{length, take};
+ghost use Rattle.decimal.specs.Decimal.{decimal, lines, Writes};
+ghost use Rattle.decimal.specs.Parsing.{IsParsed};
+
+// What a word says.
+pub enum Parsed {
+    Name(u16),
+    No,
+}
+
+// Writes a byte. Returns the place behind it, as all functions here that write do.
+fn put(out: &mut [u8], at: usize, value: u8) -> usize
+    requires { ⌜ at < length (now out) ⌝ }
+    ensures { λ r. ⌜ Writes (value ∷ []) (now (out .entry)) at (now (out .exit)) r ⌝ }
+{
+    out[at] = value;
+    at + 1
+}
+
+// Writes the decimal text of a number.
+fn put_decimal(out: &mut [u8], at: usize, n: u16) -> usize
+    requires { ⌜ at + length (decimal n) ≤ length (now out) ⌝ }
+    ensures { λ r. ⌜ Writes (decimal n) (now (out .entry)) at (now (out .exit)) r ⌝ }
+{
+    if n < 10 {
+        return put(out, at, 48 + n as u8);
+    }
+    let next = put_decimal(out, at, n / 10);
+    put(out, next, 48 + (n % 10) as u8)
+}
+
+// Writes the decimal text of a number and a line feed.
+fn put_line(out: &mut [u8], at: usize, n: u16) -> usize
+    requires { ⌜ at + 6 ≤ length (now out) ⌝ }
+    ensures { λ r. ⌜ Writes (lines (n ∷ [])) (now (out .entry)) at (now (out .exit)) r ⌝ }
+{
+    let next = put_decimal(out, at, n);
+    put(out, next, 10)
+}
+
+// Writes the first n names of a list, each to a line, from the first place of `out` on.
+pub fn write_names(list: &[u16], n: usize, out: &mut [u8]) -> usize
+    requires { ⌜ (n ≤ length (now list)) × (6 * n ≤ length (now out)) ⌝ }
+    ensures { λ r. ⌜ Writes (lines (take n (now (list .entry)))) (now (out .entry)) 0 (now (out .exit)) r ⌝ }
+{
+    let mut at = 0;
+    let mut i = 0;
+    while i < n {
+        at = put_line(out, at, list[i]);
+        i += 1;
+    }
+    at
+}
+
+// The name that a word says, if it says one.
+pub fn parse_name(word: &[u8]) -> Parsed
+    ensures { λ r. ⌜ IsParsed (now (word .entry)) r ⌝ }
+{
+    if word.len() == 0 {
+        return Parsed::No;
+    }
+    let mut value: u32 = 0;
+    let mut i = 0;
+    while i < word.len() {
+        let byte = word[i];
+        if byte < 48 {
+            return Parsed::No;
+        }
+        if 57 < byte {
+            return Parsed::No;
+        }
+        value = 10 * value + (byte - 48) as u32;
+        if 65535 < value {
+            return Parsed::No;
+        }
+        i += 1;
+    }
+    let name = value as u16;
+    Parsed::Name(name)
+}

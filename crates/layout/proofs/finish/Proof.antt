@@ -1,0 +1,34 @@
+-- `layout::finish` meets its contract. Assumes nothing.
+use borrow.Author.Needs.{needs}
+use Rattle.layout.proofs.finish.Statement.{statement}
+use Rattle.layout.proofs.finish.Tie as tie
+use Rattle.layout.proofs.Responding.{accepts, refuses}
+
+enum-known-answer : tie.Need-enum-known-answer
+enum-known-answer c = search needs
+
+enum-known-answer-2 : tie.Need-enum-known-answer-2
+enum-known-answer-2 c = search needs
+
+put-refusal-requires : tie.Need-put-refusal-requires
+put-refusal-requires c κs = search needs
+
+returns : tie.Need-returns
+returns c = λ o before call. accepts o call (c .before .answer .given .1)
+
+same-length : tie.Need-same-length
+same-length c = search needs
+
+returns-2 : tie.Need-returns-2
+returns-2 c = λ o before call. refuses o call (c .before .before .before .before .before .answer2 .given .1) (c .before .before .put-refusal .ensures)
+
+pub finish-spec : {M : Type 1} → statement M
+finish-spec =
+    tie.close
+    (tie.spec
+    enum-known-answer
+    enum-known-answer-2
+    put-refusal-requires
+    returns
+    same-length
+    returns-2)

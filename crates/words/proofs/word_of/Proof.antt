@@ -1,0 +1,50 @@
+-- `words::word_of` meets its contract. Assumes nothing.
+use borrow.Author.Needs.{needs}
+use Rattle.words.proofs.word_of.Statement.{statement}
+use Rattle.words.proofs.word_of.Tie as tie
+use Rattle.words.proofs.Orders.{unlike}
+
+slice-aggregate-same : tie.Need-slice-aggregate-same
+slice-aggregate-same c = search needs
+
+same-requires : tie.Need-same-requires
+same-requires c κs = search needs
+
+returns : tie.Need-returns
+returns c = c .before .same .ensures .0 (c .if1 .taken)
+
+slice-aggregate-same-2 : tie.Need-slice-aggregate-same-2
+slice-aggregate-same-2 c = search needs
+
+same-requires-2 : tie.Need-same-requires-2
+same-requires-2 c κs = search needs
+
+returns-2 : tie.Need-returns-2
+returns-2 c = c .before .same2 .ensures .0 (c .if2 .taken)
+
+slice-aggregate-same-3 : tie.Need-slice-aggregate-same-3
+slice-aggregate-same-3 c = search needs
+
+same-requires-3 : tie.Need-same-requires-3
+same-requires-3 c κs = search needs
+
+returns-3 : tie.Need-returns-3
+returns-3 c = c .before .same3 .ensures .0 (c .if3 .taken)
+
+returns-4 : tie.Need-returns-4
+returns-4 c = (unlike (c .before .before .before .before .before .before .if1 .left) (c .before .before .before .before .before .before .before .same .ensures .1), unlike (c .before .before .before .if2 .left) (c .before .before .before .before .same2 .ensures .1), unlike (c .if3 .left) (c .before .same3 .ensures .1))
+
+pub word-of-spec : {M : Type 1} → statement M
+word-of-spec =
+    tie.close
+    (tie.spec
+    slice-aggregate-same
+    same-requires
+    returns
+    slice-aggregate-same-2
+    same-requires-2
+    returns-2
+    slice-aggregate-same-3
+    same-requires-3
+    returns-3
+    returns-4)

@@ -1,0 +1,54 @@
+-- What the words behind the program's name ask for.
+use Prim.Native.Nat.{ℕ, _-_}
+use mathlib.Core.List.{List, [], _∷_}
+use mathlib.Core.Path.{_≡_}
+use lib.ListN.{take}
+use Rattle.decimal.specs.Decimal.{Says}
+use Rattle.words.specs.declared.Word as word
+use Rattle.words.specs.declared.Word.the-variants as is
+use Rattle.words.specs.declared.Order.{Order}
+use Rattle.words.specs.declared.Order.the-variants.{Report, Renumber, Chain, Help, Wrong}
+
+-- the words, in ASCII: renumber, chain, help
+abbrev pub renumberWord : List ℕ
+renumberWord = 114 ∷ 101 ∷ 110 ∷ 117 ∷ 109 ∷ 98 ∷ 101 ∷ 114 ∷ []
+
+abbrev pub chainWord : List ℕ
+chainWord = 99 ∷ 104 ∷ 97 ∷ 105 ∷ 110 ∷ []
+
+abbrev pub helpWord : List ℕ
+helpWord = 104 ∷ 101 ∷ 108 ∷ 112 ∷ []
+
+-- the bytes are this word
+abbrev pub IsWord : List ℕ → word.Word → Type 0
+IsWord w is.Renumber = w ≡ renumberWord
+IsWord w is.Chain = w ≡ chainWord
+IsWord w is.Help = w ≡ helpWord
+IsWord w is.Other = (w ≡ renumberWord → ⊥) × (w ≡ chainWord → ⊥) × (w ≡ helpWord → ⊥)
+
+-- "chain" and two words that say names
+pub record AsksChain (words : List (List ℕ)) (from to : ℕ) : Type 0 where
+  pub first : List ℕ
+  pub last : List ℕ
+  pub all : words ≡ chainWord ∷ first ∷ last ∷ []
+  pub says-from : Says first from
+  pub says-to : Says last to
+
+-- nothing that there is
+pub record AsksNothing (words : List (List ℕ)) : Type 0 where
+  pub some : words ≡ [] → ⊥
+  pub renumber : words ≡ renumberWord ∷ [] → ⊥
+  pub help : words ≡ helpWord ∷ [] → ⊥
+  pub chain : (from to : ℕ) → AsksChain words from to → ⊥
+
+-- the words ask for this
+abbrev pub Asks : List (List ℕ) → Order → Type 0
+Asks words Report = words ≡ []
+Asks words Renumber = words ≡ renumberWord ∷ []
+Asks words (Chain from to) = AsksChain words from to
+Asks words Help = words ≡ helpWord ∷ []
+Asks words Wrong = AsksNothing words
+
+-- the words behind the program's name, where there are `count` with it: those behind the third stand as one empty word
+abbrev pub wordsOf : ℕ → List ℕ → List ℕ → List ℕ → List (List ℕ)
+wordsOf count first second third = take (count - 1) (first ∷ second ∷ third ∷ [] ∷ [])

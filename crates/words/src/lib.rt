@@ -1,0 +1,85 @@
+// What the program's arguments ask for.
+use decimal::Parsed;
+ghost use mathlib.Core.List.{List, [], _∷_};
+ghost use Prim.Native.Nat.{ℕ};
+ghost use Rattle.decimal.specs.Parsing.{IsParsed};
+ghost use Rattle.words.specs.Words.{IsWord, Asks, wordsOf};
+
+// A first word.
+enum Word {
+    Renumber,
+    Chain,
+    Help,
+    Other,
+}
+
+// What is asked for.
+pub enum Order {
+    Report,
+    Renumber,
+    Chain(u16, u16),
+    Help,
+    Wrong,
+}
+
+// Which word it is.
+fn word_of(word: &[u8]) -> Word
+    ensures { λ r. ⌜ IsWord (now (word .entry)) r ⌝ }
+{
+    if check::same(word, b"renumber") {
+        return Word::Renumber;
+    }
+    if check::same(word, b"chain") {
+        return Word::Chain;
+    }
+    if check::same(word, b"help") {
+        return Word::Help;
+    }
+    Word::Other
+}
+
+// What a word without others asks for.
+fn alone(word: Word) -> Order
+    ensures { λ r. ⌜ ((w : List ℕ) → IsWord w word → Asks (w ∷ []) r) ⌝ }
+{
+    match word {
+        Word::Renumber => Order::Renumber,
+        Word::Chain => Order::Wrong,
+        Word::Help => Order::Help,
+        Word::Other => Order::Wrong,
+    }
+}
+
+// What a word asks for with two others behind it.
+fn between(word: Word, from: Parsed, to: Parsed) -> Order
+    ensures { λ r. ⌜ ((w x y : List ℕ) → IsWord w word → IsParsed x from → IsParsed y to → Asks (w ∷ x ∷ y ∷ []) r) ⌝ }
+{
+    let Word::Chain = word else {
+        return Order::Wrong;
+    };
+    let Parsed::Name(first) = from else {
+        return Order::Wrong;
+    };
+    let Parsed::Name(last) = to else {
+        return Order::Wrong;
+    };
+    Order::Chain(first, last)
+}
+
+// What the arguments ask for, of which there are `count`, the program's own name among them.
+pub fn order_of(count: usize, first: &[u8], second: &[u8], third: &[u8]) -> Order
+    ensures { λ r. ⌜ Asks (wordsOf count (now (first .entry)) (now (second .entry)) (now (third .entry))) r ⌝ }
+{
+    if count <= 1 {
+        return Order::Report;
+    }
+    if count == 2 {
+        return alone(word_of(first));
+    }
+    if count == 4 {
+        let from = decimal::parse_name(second);
+        let to = decimal::parse_name(third);
+        return between(word_of(first), from, to);
+    }
+    Order::Wrong
+}
