@@ -20,7 +20,8 @@ ghost use Rattle.meaning.specs.References.{isConstant, collectFieldReferencesRe
 ghost use Rattle.meaning.specs.Sizes.{getPrimitiveSize, hasSize, oneSize, isEnumWithConstantSizeVariants, inlineSizeDepends, containsJaggedArray};
 ghost use Rattle.meaning.specs.Tree.{typeRef};
 ghost use Rattle.meaning.specs.Violations.{typeNeedsFieldRefForLayout};
-ghost use Rattle.bundle.specs.View.{exprFormMeant, typeFormMeant, formMeant, Reads};
+ghost use Rattle.bundle.specs.declared.Step.the-variants.{Next};
+ghost use Rattle.bundle.specs.View.{exprFormMeant, typeFormMeant, formMeant, stepOf, Reads};
 ghost use Rattle.bundle.specs.Definitions.{typeAt, membersAt, bundleOf, Table};
 ghost use Rattle.bundle.specs.Expressions.{exprAt};
 ghost use Rattle.sizes.specs.Paths.{Fit, targetMeant, sizeShown};
@@ -128,6 +129,18 @@ pub fn next_reference(s: &[u8], at: usize, end: usize) -> Found
     Found::Nothing
 }
 
+// Whether no field reference is inside the expression that was read from `at` to `end`, with `depth` levels left.
+fn is_constant_to(s: &[u8], at: usize, end: usize, depth: usize) -> bool
+    requires { ⌜ (length (now s) ≤ sizeLimit) × (Next end ≡ stepOf (readExpr depth (now s) at)) ⌝ }
+    ensures { λ r. ⌜ r ≡ isConstant (exprAt depth (now (s .entry)) at) ⌝ }
+{
+    let found = next_reference(s, at, end);
+    match found {
+        Found::At(_) => false,
+        Found::Nothing => true,
+    }
+}
+
 // Whether no field reference is inside the expression that was read at `at`.
 pub fn is_constant(s: &[u8], at: usize, depth: usize) -> bool
     requires { ⌜ Reads (readExpr depth (now s) at) ⌝ }
@@ -136,13 +149,7 @@ pub fn is_constant(s: &[u8], at: usize, depth: usize) -> bool
 {
     let step = bundle::expr_at(s, at, depth);
     match step {
-        Step::Next(end) => {
-            let found = next_reference(s, at, end);
-            match found {
-                Found::At(_) => false,
-                Found::Nothing => true,
-            }
-        }
+        Step::Next(end) => is_constant_to(s, at, end, depth),
         Step::Refused(_) => true,
     }
 }
@@ -506,7 +513,7 @@ fn enum_definition_test(
     if one_size(s, after, 23, n) {
         return false;
     }
-    !is_constant(s, next, 23)
+    !is_constant_to(s, next, after, 23)
 }
 
 // The inline-type test of the type that was read at `at`.
@@ -603,27 +610,27 @@ fn group_test(
     }
 }
 
-// Whether the test holds by the expression at `at` itself: in the size test, where it is not constant.
-fn expr_counts(s: &[u8], jagged: bool, at: usize, depth: usize) -> bool
-    requires { ⌜ (length (now s) ≤ sizeLimit) × Reads (readExpr depth (now s) at) ⌝ }
+// Whether the test holds by the expression from `at` to `end` itself: in the size test, where it is not constant.
+fn expr_counts(s: &[u8], jagged: bool, at: usize, end: usize, depth: usize) -> bool
+    requires { ⌜ (length (now s) ≤ sizeLimit) × (Next end ≡ stepOf (readExpr depth (now s) at)) ⌝ }
     ensures { λ r. ⌜ r ≡ exprCounts jagged (exprAt depth (now (s .entry)) at) ⌝ }
 {
     if jagged {
         return false;
     }
-    !is_constant(s, at, depth)
+    !is_constant_to(s, at, end, depth)
 }
 
-// Whether the test holds by the array itself, whose body is at `at` and whose size is at `size`: where the array is jagged, or in
-// the size test, where its size is not constant.
-fn array_counts(s: &[u8], jagged: bool, at: usize, size: usize, depth: usize) -> bool
-    requires { ⌜ (length (now s) ≤ sizeLimit) × (at + 10 ≤ length (now s)) × Reads (readExpr depth (now s) size) ⌝ }
+// Whether the test holds by the array itself, whose body is at `at` and whose size goes from `size` to `end`: where the array is jagged,
+// or in the size test, where its size is not constant.
+fn array_counts(s: &[u8], jagged: bool, at: usize, size: usize, end: usize, depth: usize) -> bool
+    requires { ⌜ (length (now s) ≤ sizeLimit) × (at + 10 ≤ length (now s)) × (Next end ≡ stepOf (readExpr depth (now s) size)) ⌝ }
     ensures { λ r. ⌜ r ≡ arrayCounts jagged (getD (now (s .entry)) (at + 9) 0) (exprAt depth (now (s .entry)) size) ⌝ }
 {
     if jagged {
         return s[at + 9] == 1;
     }
-    !is_constant(s, size, depth)
+    !is_constant_to(s, size, end, depth)
 }
 
 // The same for the enum whose body is at `at`: in the size test a tag that is not constant is enough.
@@ -648,7 +655,7 @@ fn enum_test(
     let Step::Next(after) = tag else {
         return Tested::Holds;
     };
-    if expr_counts(s, jagged, next, depth) {
+    if expr_counts(s, jagged, next, after, depth) {
         return Tested::Holds;
     }
     members_test(s, places, count, kept, jagged, after, depth, 0x52, n, left)
@@ -676,7 +683,7 @@ fn array_test(
     let Step::Next(after) = size else {
         return Tested::Holds;
     };
-    if array_counts(s, jagged, at, next, depth) {
+    if array_counts(s, jagged, at, next, after, depth) {
         return Tested::Holds;
     }
     inline_type_test(s, places, count, kept, jagged, after, depth, left)

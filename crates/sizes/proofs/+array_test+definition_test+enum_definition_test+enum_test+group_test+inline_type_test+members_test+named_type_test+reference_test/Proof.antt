@@ -42,6 +42,7 @@ use Rattle.bundle.proofs.u16_at.Reads as u16-at-reads
 use Rattle.sizes.proofs.array_counts.Reads as array-counts-reads
 use Rattle.sizes.proofs.expr_counts.Reads as expr-counts-reads
 use Rattle.sizes.proofs.is_constant.Reads as is-constant-reads
+use Rattle.sizes.proofs.is_constant_to.Reads as is-constant-to-reads
 use Rattle.sizes.proofs.is_holds.Reads as is-holds-reads
 use Rattle.sizes.proofs.mark_of.Reads as mark-of-reads
 use Rattle.sizes.proofs.one_size.Reads as one-size-reads
@@ -255,7 +256,7 @@ Ask-enum-test N = (t : ℕ) → N (calls-enum-test t) (enum-test-at t) enum-test
 
 -- what `enum-definition-test` is told of the functions that it calls
 abbrev calls-enum-definition-test : ℕ → enum-definition-test-lts.Claims
-calls-enum-definition-test t = (count-at-reads.Asked, count-at-reads.Learnt, expr-at-reads.Asked, expr-at-reads.Learnt, members-test-below t, members-test.Post, is-holds-reads.Asked, is-holds-reads.Learnt, one-size-reads.Asked, one-size-reads.Learnt, is-constant-reads.Asked, is-constant-reads.Learnt)
+calls-enum-definition-test t = (count-at-reads.Asked, count-at-reads.Learnt, expr-at-reads.Asked, expr-at-reads.Learnt, members-test-below t, members-test.Post, is-holds-reads.Asked, is-holds-reads.Learnt, one-size-reads.Asked, one-size-reads.Learnt, is-constant-to-reads.Asked, is-constant-to-reads.Learnt)
 
 -- a need of `enum-definition-test`
 abbrev Ask-enum-definition-test : (enum-definition-test-lts.Claims → In 3 enum-definition-test-kinds.ps → Out 3 enum-definition-test-kinds.ps enum-definition-test-kinds.r → Type 0) → Type 0
@@ -302,7 +303,7 @@ array-test-returns-2 : Ask-array-test array-test-lts.Need-returns-2
 array-test-returns-2 t c = absurd (size-no _ _ _ (c .before .before .before .before .before .before .before .before .before .pre .1 .2 .0) _ _ (sym (c .before .before .before .before .head .given .1) ∙ c .before .before .before .before .before .before .array-head-at .ensures) (sym (c .enum-told2 .given .1) ∙ c .before .before .expr-at .ensures))
 
 array-test-array-counts-requires : Ask-array-test array-test-lts.Need-array-counts-requires
-array-test-array-counts-requires t c κs = (c .before .before .before .before .before .before .before .before .before .before .pre .1 .2 .1 .small, array-where _ _ _ (sym (c .before .before .before .before .before .head .given .1) ∙ c .before .before .before .before .before .before .before .array-head-at .ensures) .1, size-reads _ _ _ _ _ (sym (c .before .before .before .before .before .head .given .1) ∙ c .before .before .before .before .before .before .before .array-head-at .ensures) (c .before .before .before .before .before .before .before .before .before .before .pre .1 .2 .0))
+array-test-array-counts-requires t c κs = (c .before .before .before .before .before .before .before .before .before .before .pre .1 .2 .1 .small, array-where _ _ _ (sym (c .before .before .before .before .before .head .given .1) ∙ c .before .before .before .before .before .before .before .array-head-at .ensures) .1, sym (c .before .size .given .1) ∙ c .before .before .before .expr-at .ensures)
 
 array-test-returns-3 : Ask-array-test array-test-lts.Need-returns-3
 array-test-returns-3 t c = (sym (array-counts _ _ _ _ _ _ (sym (c .before .before .before .before .before .before .before .head .given .1) ∙ c .before .before .before .before .before .before .before .before .before .array-head-at .ensures) (c .before .before .before .before .before .before .before .before .before .before .before .before .pre .1 .2 .0) (sym (c .before .before .before .size .given .1) ∙ c .before .before .before .before .before .expr-at .ensures) (sym (c .if1 .taken) ∙ c .before .array-counts .ensures)), c .before .before .before .before .before .before .before .before .before .before .before .before .pre .1 .2 .1 .keeps)
@@ -439,11 +440,11 @@ enum-definition-test-one-size-requires t c κs = variants-read _ _ _ _ _ _ (sym 
 enum-definition-test-returns-4 : Ask-enum-definition-test enum-definition-test-lts.Need-returns-4
 enum-definition-test-returns-4 t c = (sym (named-one _ _ _ _ _ _ (sym (c .before .before .before .before .before .before .before .before .before .before .before .head .given .1) ∙ c .before .before .before .before .before .before .before .before .before .before .before .before .before .count-at .ensures) (c .before .before .before .before .before .before .before .before .before .before .before .before .before .before .before .before .pre .1 .3 .0) (sym (c .before .before .before .before .before .before .before .tag .given .1) ∙ c .before .before .before .before .before .before .before .before .before .expr-at .ensures) (c .before .before .before .before .before .before .before .before .before .before .before .before .before .before .before .before .pre .1 .0) _ (c .before .before .before .before .members-test .ensures .0) (sym (c .before .before .before .is-holds .ensures) ∙ c .before .before .if1 .left) (sym (c .if2 .taken) ∙ c .before .one-size .ensures)), c .before .before .before .before .members-test .ensures .1)
 
-enum-definition-test-is-constant-requires : Ask-enum-definition-test enum-definition-test-lts.Need-is-constant-requires
-enum-definition-test-is-constant-requires t c κs = (tag-reads _ _ _ _ _ _ (sym (c .before .before .before .before .before .before .before .before .before .before .before .head .given .1) ∙ c .before .before .before .before .before .before .before .before .before .before .before .before .before .count-at .ensures) (c .before .before .before .before .before .before .before .before .before .before .before .before .before .before .before .before .pre .1 .3 .0), c .before .before .before .before .before .before .before .before .before .before .before .before .before .before .before .before .pre .1 .3 .1 .small)
+enum-definition-test-is-constant-to-requires : Ask-enum-definition-test enum-definition-test-lts.Need-is-constant-to-requires
+enum-definition-test-is-constant-to-requires t c κs = (c .before .before .before .before .before .before .before .before .before .before .before .before .before .before .before .before .pre .1 .3 .1 .small, sym (c .before .before .before .before .before .before .before .tag .given .1) ∙ c .before .before .before .before .before .before .before .before .before .expr-at .ensures)
 
 enum-definition-test-returns-5 : Ask-enum-definition-test enum-definition-test-lts.Need-returns-5
-enum-definition-test-returns-5 t c = (named-tag _ _ _ _ _ _ (sym (c .before .before .before .before .before .before .before .before .before .before .before .before .head .given .1) ∙ c .before .before .before .before .before .before .before .before .before .before .before .before .before .before .count-at .ensures) (c .before .before .before .before .before .before .before .before .before .before .before .before .before .before .before .before .before .pre .1 .3 .0) (sym (c .before .before .before .before .before .before .before .before .tag .given .1) ∙ c .before .before .before .before .before .before .before .before .before .before .expr-at .ensures) (c .before .before .before .before .before .before .before .before .before .before .before .before .before .before .before .before .before .pre .1 .0) _ (c .before .before .before .before .before .members-test .ensures .0) (sym (c .before .before .before .before .is-holds .ensures) ∙ c .before .before .before .if1 .left) (sym (c .before .if2 .left) ∙ c .before .before .one-size .ensures) _ (c .is-constant .ensures), c .before .before .before .before .before .members-test .ensures .1)
+enum-definition-test-returns-5 t c = (named-tag _ _ _ _ _ _ (sym (c .before .before .before .before .before .before .before .before .before .before .before .before .head .given .1) ∙ c .before .before .before .before .before .before .before .before .before .before .before .before .before .before .count-at .ensures) (c .before .before .before .before .before .before .before .before .before .before .before .before .before .before .before .before .before .pre .1 .3 .0) (sym (c .before .before .before .before .before .before .before .before .tag .given .1) ∙ c .before .before .before .before .before .before .before .before .before .before .expr-at .ensures) (c .before .before .before .before .before .before .before .before .before .before .before .before .before .before .before .before .before .pre .1 .0) _ (c .before .before .before .before .before .members-test .ensures .0) (sym (c .before .before .before .before .is-holds .ensures) ∙ c .before .before .before .if1 .left) (sym (c .before .if2 .left) ∙ c .before .before .one-size .ensures) _ (c .is-constant-to .ensures), c .before .before .before .before .before .members-test .ensures .1)
 
 enum-test-count-at-requires : Ask-enum-test enum-test-lts.Need-count-at-requires
 enum-test-count-at-requires t c κs = c .before .before .pre .1 .0
@@ -470,7 +471,7 @@ enum-test-returns-2 : Ask-enum-test enum-test-lts.Need-returns-2
 enum-test-returns-2 t c = absurd (tag-no _ _ _ (c .before .before .before .before .before .before .before .before .before .pre .1 .2 .0) _ _ _ (sym (c .before .before .before .before .head .given .1) ∙ c .before .before .before .before .before .before .count-at .ensures) (sym (c .enum-told2 .given .1) ∙ c .before .before .expr-at .ensures))
 
 enum-test-expr-counts-requires : Ask-enum-test enum-test-lts.Need-expr-counts-requires
-enum-test-expr-counts-requires t c κs = (c .before .before .before .before .before .before .before .before .before .before .pre .1 .2 .1 .small, tag-reads _ _ _ _ _ _ (sym (c .before .before .before .before .before .head .given .1) ∙ c .before .before .before .before .before .before .before .count-at .ensures) (c .before .before .before .before .before .before .before .before .before .before .pre .1 .2 .0))
+enum-test-expr-counts-requires t c κs = (c .before .before .before .before .before .before .before .before .before .before .pre .1 .2 .1 .small, sym (c .before .tag .given .1) ∙ c .before .before .before .expr-at .ensures)
 
 enum-test-returns-3 : Ask-enum-test enum-test-lts.Need-returns-3
 enum-test-returns-3 t c = (sym (enum-counts _ _ _ _ _ _ _ (sym (c .before .before .before .before .before .before .before .head .given .1) ∙ c .before .before .before .before .before .before .before .before .before .count-at .ensures) (c .before .before .before .before .before .before .before .before .before .before .before .before .pre .1 .2 .0) (sym (c .before .before .before .tag .given .1) ∙ c .before .before .before .before .before .expr-at .ensures) (sym (c .if1 .taken) ∙ c .before .expr-counts .ensures)), c .before .before .before .before .before .before .before .before .before .before .before .before .pre .1 .2 .1 .keeps)
@@ -772,7 +773,7 @@ pub +array-test+definition-test+enum-definition-test+enum-test+group-test+inline
     (enum-definition-test-returns-3 t)
     (enum-definition-test-one-size-requires t)
     (enum-definition-test-returns-4 t)
-    (enum-definition-test-is-constant-requires t)
+    (enum-definition-test-is-constant-to-requires t)
     (enum-definition-test-returns-5 t))
     (λ t. enum-test-lts.spec (calls-enum-test t) (enum-test-at t)
     enum-test.Post

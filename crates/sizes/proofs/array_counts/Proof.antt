@@ -14,11 +14,11 @@ shared-slice-read-result c = omega (arith, c .before .before .before .pre .1)
 returns : tie.Need-returns
 returns c = rw (c .before .if1 .taken)
 
-is-constant-requires : tie.Need-is-constant-requires
-is-constant-requires c κs = (c .before .before .pre .2, c .before .before .pre .0)
+is-constant-to-requires : tie.Need-is-constant-to-requires
+is-constant-to-requires c κs = (c .before .before .pre .0, c .before .before .pre .2)
 
 returns-2 : tie.Need-returns-2
-returns-2 c = rw (c .before .if1 .left) (ap not (c .is-constant .ensures))
+returns-2 c = rw (c .before .if1 .left) (ap not (c .is-constant-to .ensures))
 
 pub array-counts-spec : {M : Type 1} → statement M
 array-counts-spec =
@@ -26,5 +26,5 @@ array-counts-spec =
     add-result
     shared-slice-read-result
     returns
-    is-constant-requires
+    is-constant-to-requires
     returns-2)
