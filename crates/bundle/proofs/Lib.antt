@@ -8,6 +8,7 @@ pub mod HeadLaws
 pub mod LayoutLaws
 pub mod LeadLaws
 pub mod LookupLaws
+pub mod OperandLaws
 pub mod PartTrees
 pub mod RecordLaws
 pub mod Steps

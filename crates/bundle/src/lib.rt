@@ -12,7 +12,7 @@ ghost use Rattle.meaning.specs.Tree.{typeRef};
 ghost use Rattle.meaning.specs.Lookup.{definitionOf};
 ghost use Rattle.meaning.specs.Circle.{circles};
 ghost use Rattle.meaning.specs.Calls.{acceptance, answerOf};
-ghost use Rattle.bundle.specs.View.{formMeant, stepOf, countOf, countsOf};
+ghost use Rattle.bundle.specs.View.{formMeant, operandsOf, stepOf, countOf, countsOf};
 ghost use Rattle.bundle.specs.declared.Counts.the-variants.{Each};
 ghost use Rattle.bundle.specs.Definitions.{bundleOf, DefinitionsAt, Table};
 ghost use Rattle.bundle.specs.Circles.{Marks, Decided, TypeToWalk, TypeWalked, MembersToWalk, MembersWalked, GroupToWalk, GroupWalked};
@@ -27,6 +27,14 @@ pub enum ExprForm {
     Alignof,
     Binary,
     Unary,
+}
+
+// The operands of an expression: none and a body of so many bytes, one, or two. Unknown: the kind is not an expression's.
+pub enum Operands {
+    None(usize),
+    One,
+    Two,
+    Unknown,
 }
 
 // What a type's kind byte fixes.
@@ -128,36 +136,69 @@ pub fn skip_bytes(s: &[u8], at: usize, n: usize) -> Step
     }
 }
 
-// The end of the expression at `at`, where `depth` levels are left.
+// The operands of an expression by its kind byte.
+fn operands_of(kind: u8) -> Operands
+    ensures { λ r. ⌜ r ≡ operandsOf (formOf kind) ⌝ }
+{
+    let form = form_of(kind);
+    let Form::OfExpr(e) = form else {
+        return Operands::Unknown;
+    };
+    match e {
+        ExprForm::Literal(n) => Operands::None(n as usize),
+        ExprForm::FieldRef(n) => Operands::None(2 * (n as usize)),
+        ExprForm::Sizeof => Operands::None(2),
+        ExprForm::Alignof => Operands::None(2),
+        ExprForm::Binary => Operands::Two,
+        ExprForm::Unary => Operands::One,
+    }
+}
+
+// The end of the expression at `at`, where `depth` levels are left. `due` has the levels of the n right operands that are still to
+// be read, the next one last. Each is below the one before it, so only an expression of more than 32 levels needs the call.
 pub fn expr_at(s: &[u8], at: usize, depth: usize) -> Step
     ensures { λ r. ⌜ r ≡ stepOf (readExpr depth (now (s .entry)) at) ⌝ }
 {
-    if depth == 0 {
-        return Step::Refused(6);
-    }
-    if s.len() <= at {
-        return Step::Refused(2);
-    }
-    let kind = s[at];
-    let form = form_of(kind);
-    let Form::OfExpr(e) = form else {
-        return Step::Refused(3);
-    };
-    let body = at + 1;
-    match e {
-        ExprForm::Literal(n) => skip_bytes(s, body, n as usize),
-        ExprForm::FieldRef(n) => skip_bytes(s, body, 2 * (n as usize)),
-        ExprForm::Sizeof => skip_bytes(s, body, 2),
-        ExprForm::Alignof => skip_bytes(s, body, 2),
-        ExprForm::Binary => {
-            let left = expr_at(s, body, depth - 1);
-            match left {
-                Step::Next(next) => expr_at(s, next, depth - 1),
-                Step::Refused(k) => Step::Refused(k),
-            }
+    let mut due = [0u8; 32];
+    let mut n = 0;
+    let mut level = depth;
+    let mut next = at;
+    while 0 < level {
+        if s.len() <= next {
+            return Step::Refused(2);
         }
-        ExprForm::Unary => expr_at(s, body, depth - 1),
+        let operands = operands_of(s[next]);
+        next += 1;
+        level -= 1;
+        match operands {
+            Operands::None(w) => {
+                if s.len() - next < w {
+                    return Step::Refused(2);
+                }
+                next += w;
+                if n == 0 {
+                    return Step::Next(next);
+                }
+                n -= 1;
+                level = due[n] as usize;
+            }
+            Operands::One => {}
+            Operands::Two => {
+                if level < 32 - n {
+                    due[n] = level as u8;
+                    n += 1;
+                } else {
+                    let left = expr_at(s, next, level);
+                    match left {
+                        Step::Next(after) => next = after,
+                        Step::Refused(k) => return Step::Refused(k),
+                    }
+                }
+            }
+            Operands::Unknown => return Step::Refused(3),
+        }
     }
+    Step::Refused(6)
 }
 
 // The number in the two bytes at `at`.
