@@ -259,6 +259,17 @@ pub fn member_head_at(s: &[u8], at: usize, kind: u8) -> Step
     skip_bytes(s, at + 1, 2 + (w as usize))
 }
 
+// The same step. Where a function returns the step of a call, the compiled code stores it in parts and loads it whole, and waits for
+// the stores; a step that is made anew stays in registers.
+fn rebuilt(step: Step) -> Step
+    ensures { λ r. ⌜ r ≡ step ⌝ }
+{
+    match step {
+        Step::Next(n) => Step::Next(n),
+        Step::Refused(k) => Step::Refused(k),
+    }
+}
+
 // The end of the type at `at`, where `depth` levels are left.
 pub fn type_at(s: &[u8], at: usize, depth: usize) -> Step
     ensures { λ r. ⌜ r ≡ stepOf (readTy depth (now (s .entry)) at) ⌝ }
@@ -278,11 +289,11 @@ pub fn type_at(s: &[u8], at: usize, depth: usize) -> Step
     match t {
         TypeForm::Primitive => Step::Next(body),
         TypeForm::TypeRef => skip_bytes(s, body, 2),
-        TypeForm::Struct => group_at(s, body, depth - 1, 0x50),
-        TypeForm::Union => group_at(s, body, depth - 1, 0x51),
-        TypeForm::Enum => enum_at(s, body, depth - 1),
-        TypeForm::Array => array_at(s, body, depth - 1),
-        TypeForm::SizeUnion => group_at(s, body, depth - 1, 0x53),
+        TypeForm::Struct => rebuilt(group_at(s, body, depth - 1, 0x50)),
+        TypeForm::Union => rebuilt(group_at(s, body, depth - 1, 0x51)),
+        TypeForm::Enum => rebuilt(enum_at(s, body, depth - 1)),
+        TypeForm::Array => rebuilt(array_at(s, body, depth - 1)),
+        TypeForm::SizeUnion => rebuilt(group_at(s, body, depth - 1, 0x53)),
     }
 }
 
@@ -293,7 +304,7 @@ fn group_at(s: &[u8], at: usize, depth: usize, kind: u8) -> Step
 {
     let count = count_at(s, at);
     match count {
-        Count::Of(n, next) => members_at(s, next, depth, kind, n),
+        Count::Of(n, next) => rebuilt(members_at(s, next, depth, kind, n)),
         Count::Wrong(k) => Step::Refused(k),
     }
 }
@@ -308,7 +319,7 @@ fn enum_at(s: &[u8], at: usize, depth: usize) -> Step
         Count::Of(n, next) => {
             let tag = expr_at(s, next, depth);
             match tag {
-                Step::Next(after) => members_at(s, after, depth, 0x52, n),
+                Step::Next(after) => rebuilt(members_at(s, after, depth, 0x52, n)),
                 Step::Refused(k) => Step::Refused(k),
             }
         }
@@ -326,7 +337,7 @@ fn array_at(s: &[u8], at: usize, depth: usize) -> Step
         Step::Next(next) => {
             let size = expr_at(s, next, depth);
             match size {
-                Step::Next(after) => type_at(s, after, depth),
+                Step::Next(after) => rebuilt(type_at(s, after, depth)),
                 Step::Refused(k) => Step::Refused(k),
             }
         }
@@ -340,7 +351,7 @@ fn member_at(s: &[u8], at: usize, depth: usize, kind: u8) -> Step
 {
     let head = member_head_at(s, at, kind);
     match head {
-        Step::Next(next) => type_at(s, next, depth),
+        Step::Next(next) => rebuilt(type_at(s, next, depth)),
         Step::Refused(k) => Step::Refused(k),
     }
 }
