@@ -631,12 +631,12 @@ fn walk_type(
     let body = at + 1;
     match t {
         TypeForm::Primitive => Step::Next(body),
-        TypeForm::TypeRef => walk_name(s, places, count, marks, body),
-        TypeForm::Struct => walk_group(s, places, count, marks, body, depth - 1, 0x50),
-        TypeForm::Union => walk_group(s, places, count, marks, body, depth - 1, 0x51),
-        TypeForm::Enum => walk_enum(s, places, count, marks, body, depth - 1),
-        TypeForm::Array => walk_array(s, places, count, marks, body, depth - 1),
-        TypeForm::SizeUnion => walk_group(s, places, count, marks, body, depth - 1, 0x53),
+        TypeForm::TypeRef => rebuilt(walk_name(s, places, count, marks, body)),
+        TypeForm::Struct => rebuilt(walk_group(s, places, count, marks, body, depth - 1, 0x50)),
+        TypeForm::Union => rebuilt(walk_group(s, places, count, marks, body, depth - 1, 0x51)),
+        TypeForm::Enum => rebuilt(walk_enum(s, places, count, marks, body, depth - 1)),
+        TypeForm::Array => rebuilt(walk_array(s, places, count, marks, body, depth - 1)),
+        TypeForm::SizeUnion => rebuilt(walk_group(s, places, count, marks, body, depth - 1, 0x53)),
     }
 }
 
@@ -655,7 +655,7 @@ fn walk_group(
 {
     let head = count_at(s, at);
     match head {
-        Count::Of(n, next) => walk_members(s, places, count, marks, next, depth, kind, n),
+        Count::Of(n, next) => rebuilt(walk_members(s, places, count, marks, next, depth, kind, n)),
         Count::Wrong(_) => Step::Refused(8),
     }
 }
@@ -677,7 +677,10 @@ fn walk_enum(
         Count::Of(n, next) => {
             let tag = expr_at(s, next, depth);
             match tag {
-                Step::Next(after) => walk_members(s, places, count, marks, after, depth, 0x52, n),
+                Step::Next(after) => {
+                    let step = walk_members(s, places, count, marks, after, depth, 0x52, n);
+                    rebuilt(step)
+                }
                 Step::Refused(_) => Step::Refused(8),
             }
         }
@@ -702,7 +705,7 @@ fn walk_array(
         Step::Next(next) => {
             let size = expr_at(s, next, depth);
             match size {
-                Step::Next(after) => walk_type(s, places, count, marks, after, depth),
+                Step::Next(after) => rebuilt(walk_type(s, places, count, marks, after, depth)),
                 Step::Refused(_) => Step::Refused(8),
             }
         }
