@@ -156,6 +156,9 @@ fn operands_of(kind: u8) -> Operands
 
 // The end of the expression at `at`, where `depth` levels are left. `due` has the levels of the n right operands that are still to
 // be read, the next one last. Each is below the one before it, so only an expression of more than 32 levels needs the call.
+//
+// A slice is handed on by its address. The call gets a slice of its own, `&s[..]`, so that `s` itself stays in registers; so does
+// the call in `member_at`.
 pub fn expr_at(s: &[u8], at: usize, depth: usize) -> Step
     ensures { λ r. ⌜ r ≡ stepOf (readExpr depth (now (s .entry)) at) ⌝ }
 {
@@ -188,7 +191,7 @@ pub fn expr_at(s: &[u8], at: usize, depth: usize) -> Step
                     due[n] = level as u8;
                     n += 1;
                 } else {
-                    let left = expr_at(s, next, level);
+                    let left = expr_at(&s[..], next, level);
                     match left {
                         Step::Next(after) => next = after,
                         Step::Refused(k) => return Step::Refused(k),
@@ -351,7 +354,7 @@ fn member_at(s: &[u8], at: usize, depth: usize, kind: u8) -> Step
 {
     let head = member_head_at(s, at, kind);
     match head {
-        Step::Next(next) => rebuilt(type_at(s, next, depth)),
+        Step::Next(next) => rebuilt(type_at(&s[..], next, depth)),
         Step::Refused(k) => Step::Refused(k),
     }
 }
