@@ -18,7 +18,7 @@ use Rattle.meaning.specs.ReadType.{readTy}
 use Rattle.meaning.specs.ReadBundle.{opening, readDefinition, readEdge}
 use Rattle.bundle.specs.View.{stepOf, Reads, valueOr}
 use Rattle.bundle.specs.Definitions.{definitionsAt, edgesAt, definitionAt, Placed, DefinitionsAt, edgeAt}
-use Rattle.bundle.proofs.Bounds.{type-in}
+use Rattle.bundle.proofs.Bounds.{type-in, step-in}
 use Rattle.bundle.proofs.RecordLaws.{opening-where, definition-ends}
 use Rattle.bundle.proofs.Steps.{many-none, many-more, many-refused}
 use Rattle.bundle.proofs.Trees.{ended, ended-reads, made-reads, made-value, refused-no, many-first, many-rest, many-value}
@@ -154,11 +154,7 @@ definitions-in s (suc n) at m h e =
     definition-in : (s : List ℕ) (at m : ℕ) → Next m ≡ stepOf (readDefinition s at) → m ≤ length s
     definition-in s at m e =
         let d = definition-read s at (ended-reads (readDefinition s at) m e) in
-        type-within (readTy 24 s (at + 3)) refl (e ∙ d .ends)
-      where
-        type-within : (x : Read Ty) → readTy 24 s (at + 3) ≡ x → Next m ≡ stepOf x → m ≤ length s
-        type-within (ok t j) q p = let k : m ≡ j = cc in rw k (type-in s 24 .inside (at + 3) j t (definition-read s at (ended-reads (readDefinition s at) m e) .there) q)
-        type-within (refused k) q p = let z : _≡_ {A = ℕ} 0 1 = cc in absurd (omega arith)
+        step-in s (readTy 24) (type-in s 24) (at + 3) m (d .there) (e ∙ d .ends) .1
 
 -- an edge that was read takes 6 bytes
 record EdgeRead (s : List ℕ) (at : ℕ) : Type 0 where

@@ -9,6 +9,7 @@ pub mod LayoutLaws
 pub mod LeadLaws
 pub mod LookupLaws
 pub mod NameLaws
+pub mod OperandLaws
 pub mod PartTrees
 pub mod RecordLaws
 pub mod Steps

@@ -12,7 +12,7 @@ ghost use Rattle.meaning.specs.Tree.{typeRef};
 ghost use Rattle.meaning.specs.Lookup.{definitionOf};
 ghost use Rattle.meaning.specs.Circle.{circles};
 ghost use Rattle.meaning.specs.Calls.{acceptance, answerOf};
-ghost use Rattle.bundle.specs.View.{formMeant, stepOf, countOf, countsOf};
+ghost use Rattle.bundle.specs.View.{formMeant, operandsOf, stepOf, countOf, countsOf};
 ghost use Rattle.bundle.specs.declared.Counts.the-variants.{Each};
 ghost use Rattle.bundle.specs.Definitions.{bundleOf, DefinitionsAt, Places, Table};
 ghost use Rattle.bundle.specs.Circles.{Marks, Decided, TypeToWalk, TypeWalked, MembersToWalk, MembersWalked, GroupToWalk, GroupWalked};
@@ -27,6 +27,14 @@ pub enum ExprForm {
     Alignof,
     Binary,
     Unary,
+}
+
+// The operands of an expression: none and a body of so many bytes, one, or two. Unknown: the kind is not an expression's.
+pub enum Operands {
+    None(usize),
+    One,
+    Two,
+    Unknown,
 }
 
 // What a type's kind byte fixes.
@@ -128,36 +136,72 @@ pub fn skip_bytes(s: &[u8], at: usize, n: usize) -> Step
     }
 }
 
-// The end of the expression at `at`, where `depth` levels are left.
+// The operands of an expression by its kind byte.
+fn operands_of(kind: u8) -> Operands
+    ensures { λ r. ⌜ r ≡ operandsOf (formOf kind) ⌝ }
+{
+    let form = form_of(kind);
+    let Form::OfExpr(e) = form else {
+        return Operands::Unknown;
+    };
+    match e {
+        ExprForm::Literal(n) => Operands::None(n as usize),
+        ExprForm::FieldRef(n) => Operands::None(2 * (n as usize)),
+        ExprForm::Sizeof => Operands::None(2),
+        ExprForm::Alignof => Operands::None(2),
+        ExprForm::Binary => Operands::Two,
+        ExprForm::Unary => Operands::One,
+    }
+}
+
+// The end of the expression at `at`, where `depth` levels are left. `due` has the levels of the n right operands that are still to
+// be read, the next one last. Each is below the one before it, so only an expression of more than 32 levels needs the call.
+//
+// A slice is handed on by its address. The call gets a slice of its own, `&s[..]`, so that `s` itself stays in registers; so does
+// the call in `member_at`.
 pub fn expr_at(s: &[u8], at: usize, depth: usize) -> Step
     ensures { λ r. ⌜ r ≡ stepOf (readExpr depth (now (s .entry)) at) ⌝ }
 {
-    if depth == 0 {
-        return Step::Refused(6);
-    }
-    if s.len() <= at {
-        return Step::Refused(2);
-    }
-    let kind = s[at];
-    let form = form_of(kind);
-    let Form::OfExpr(e) = form else {
-        return Step::Refused(3);
-    };
-    let body = at + 1;
-    match e {
-        ExprForm::Literal(n) => skip_bytes(s, body, n as usize),
-        ExprForm::FieldRef(n) => skip_bytes(s, body, 2 * (n as usize)),
-        ExprForm::Sizeof => skip_bytes(s, body, 2),
-        ExprForm::Alignof => skip_bytes(s, body, 2),
-        ExprForm::Binary => {
-            let left = expr_at(s, body, depth - 1);
-            match left {
-                Step::Next(next) => expr_at(s, next, depth - 1),
-                Step::Refused(k) => Step::Refused(k),
-            }
+    let mut due = [0u8; 32];
+    let mut n = 0;
+    let mut level = depth;
+    let mut next = at;
+    while 0 < level {
+        if s.len() <= next {
+            return Step::Refused(2);
         }
-        ExprForm::Unary => expr_at(s, body, depth - 1),
+        let operands = operands_of(s[next]);
+        next += 1;
+        level -= 1;
+        match operands {
+            Operands::None(w) => {
+                if s.len() - next < w {
+                    return Step::Refused(2);
+                }
+                next += w;
+                if n == 0 {
+                    return Step::Next(next);
+                }
+                n -= 1;
+                level = due[n] as usize;
+            }
+            Operands::One => {}
+            Operands::Two => {
+                if level < 32 - n {
+                    due[n] = level as u8;
+                    n += 1;
+                } else {
+                    let left = expr_at(&s[..], next, level);
+                    match left {
+                        Step::Next(after) => next = after,
+                        Step::Refused(k) => return Step::Refused(k),
+                    }
+                }
+            }
+            Operands::Unknown => return Step::Refused(3),
+        }
     }
+    Step::Refused(6)
 }
 
 // The number in the two bytes at `at`.
@@ -218,6 +262,17 @@ pub fn member_head_at(s: &[u8], at: usize, kind: u8) -> Step
     skip_bytes(s, at + 1, 2 + (w as usize))
 }
 
+// The same step. Where a function returns the step of a call, the compiled code stores it in parts and loads it whole, and waits for
+// the stores; a step that is made anew stays in registers.
+fn rebuilt(step: Step) -> Step
+    ensures { λ r. ⌜ r ≡ step ⌝ }
+{
+    match step {
+        Step::Next(n) => Step::Next(n),
+        Step::Refused(k) => Step::Refused(k),
+    }
+}
+
 // The end of the type at `at`, where `depth` levels are left.
 pub fn type_at(s: &[u8], at: usize, depth: usize) -> Step
     ensures { λ r. ⌜ r ≡ stepOf (readTy depth (now (s .entry)) at) ⌝ }
@@ -237,11 +292,11 @@ pub fn type_at(s: &[u8], at: usize, depth: usize) -> Step
     match t {
         TypeForm::Primitive => Step::Next(body),
         TypeForm::TypeRef => skip_bytes(s, body, 2),
-        TypeForm::Struct => group_at(s, body, depth - 1, 0x50),
-        TypeForm::Union => group_at(s, body, depth - 1, 0x51),
-        TypeForm::Enum => enum_at(s, body, depth - 1),
-        TypeForm::Array => array_at(s, body, depth - 1),
-        TypeForm::SizeUnion => group_at(s, body, depth - 1, 0x53),
+        TypeForm::Struct => rebuilt(group_at(s, body, depth - 1, 0x50)),
+        TypeForm::Union => rebuilt(group_at(s, body, depth - 1, 0x51)),
+        TypeForm::Enum => rebuilt(enum_at(s, body, depth - 1)),
+        TypeForm::Array => rebuilt(array_at(s, body, depth - 1)),
+        TypeForm::SizeUnion => rebuilt(group_at(s, body, depth - 1, 0x53)),
     }
 }
 
@@ -252,7 +307,7 @@ fn group_at(s: &[u8], at: usize, depth: usize, kind: u8) -> Step
 {
     let count = count_at(s, at);
     match count {
-        Count::Of(n, next) => members_at(s, next, depth, kind, n),
+        Count::Of(n, next) => rebuilt(members_at(s, next, depth, kind, n)),
         Count::Wrong(k) => Step::Refused(k),
     }
 }
@@ -267,7 +322,7 @@ fn enum_at(s: &[u8], at: usize, depth: usize) -> Step
         Count::Of(n, next) => {
             let tag = expr_at(s, next, depth);
             match tag {
-                Step::Next(after) => members_at(s, after, depth, 0x52, n),
+                Step::Next(after) => rebuilt(members_at(s, after, depth, 0x52, n)),
                 Step::Refused(k) => Step::Refused(k),
             }
         }
@@ -285,7 +340,7 @@ fn array_at(s: &[u8], at: usize, depth: usize) -> Step
         Step::Next(next) => {
             let size = expr_at(s, next, depth);
             match size {
-                Step::Next(after) => type_at(s, after, depth),
+                Step::Next(after) => rebuilt(type_at(s, after, depth)),
                 Step::Refused(k) => Step::Refused(k),
             }
         }
@@ -299,7 +354,7 @@ fn member_at(s: &[u8], at: usize, depth: usize, kind: u8) -> Step
 {
     let head = member_head_at(s, at, kind);
     match head {
-        Step::Next(next) => type_at(s, next, depth),
+        Step::Next(next) => rebuilt(type_at(&s[..], next, depth)),
         Step::Refused(k) => Step::Refused(k),
     }
 }
@@ -605,12 +660,12 @@ fn walk_type(
     let body = at + 1;
     match t {
         TypeForm::Primitive => Step::Next(body),
-        TypeForm::TypeRef => walk_name(s, places, count, marks, body),
-        TypeForm::Struct => walk_group(s, places, count, marks, body, depth - 1, 0x50),
-        TypeForm::Union => walk_group(s, places, count, marks, body, depth - 1, 0x51),
-        TypeForm::Enum => walk_enum(s, places, count, marks, body, depth - 1),
-        TypeForm::Array => walk_array(s, places, count, marks, body, depth - 1),
-        TypeForm::SizeUnion => walk_group(s, places, count, marks, body, depth - 1, 0x53),
+        TypeForm::TypeRef => rebuilt(walk_name(s, places, count, marks, body)),
+        TypeForm::Struct => rebuilt(walk_group(s, places, count, marks, body, depth - 1, 0x50)),
+        TypeForm::Union => rebuilt(walk_group(s, places, count, marks, body, depth - 1, 0x51)),
+        TypeForm::Enum => rebuilt(walk_enum(s, places, count, marks, body, depth - 1)),
+        TypeForm::Array => rebuilt(walk_array(s, places, count, marks, body, depth - 1)),
+        TypeForm::SizeUnion => rebuilt(walk_group(s, places, count, marks, body, depth - 1, 0x53)),
     }
 }
 
@@ -629,7 +684,7 @@ fn walk_group(
 {
     let head = count_at(s, at);
     match head {
-        Count::Of(n, next) => walk_members(s, places, count, marks, next, depth, kind, n),
+        Count::Of(n, next) => rebuilt(walk_members(s, places, count, marks, next, depth, kind, n)),
         Count::Wrong(_) => Step::Refused(8),
     }
 }
@@ -651,7 +706,10 @@ fn walk_enum(
         Count::Of(n, next) => {
             let tag = expr_at(s, next, depth);
             match tag {
-                Step::Next(after) => walk_members(s, places, count, marks, after, depth, 0x52, n),
+                Step::Next(after) => {
+                    let step = walk_members(s, places, count, marks, after, depth, 0x52, n);
+                    rebuilt(step)
+                }
                 Step::Refused(_) => Step::Refused(8),
             }
         }
@@ -676,7 +734,7 @@ fn walk_array(
         Step::Next(next) => {
             let size = expr_at(s, next, depth);
             match size {
-                Step::Next(after) => walk_type(s, places, count, marks, after, depth),
+                Step::Next(after) => rebuilt(walk_type(s, places, count, marks, after, depth)),
                 Step::Refused(_) => Step::Refused(8),
             }
         }

@@ -28,6 +28,7 @@ use Rattle.bundle.proofs.count_at.Reads as count-at-reads
 use Rattle.bundle.proofs.expr_at.Reads as expr-at-reads
 use Rattle.bundle.proofs.form_of.Reads as form-of-reads
 use Rattle.bundle.proofs.member_head_at.Reads as member-head-at-reads
+use Rattle.bundle.proofs.rebuilt.Reads as rebuilt-reads
 use Rattle.bundle.proofs.skip_bytes.Reads as skip-bytes-reads
 use Rattle.bundle.proofs.+array_at+enum_at+group_at+member_at+members_at+type_at.{statement}
 use Rattle.bundle.proofs.+array_at+enum_at+group_at+member_at+members_at+type_at.Tie.{close}
@@ -106,7 +107,7 @@ type-at-below t = and 1 type-at-kinds.ps (falls 1 type-at-kinds.ps _<_ μ-type-a
 
 -- what `type-at` is told of the functions that it calls
 abbrev calls-type-at : ℕ → type-at-lts.Claims
-calls-type-at t = (form-of-reads.Asked, form-of-reads.Learnt, skip-bytes-reads.Asked, skip-bytes-reads.Learnt, group-at-below t, group-at.Post, enum-at-below t, enum-at.Post, array-at-below t, array-at.Post)
+calls-type-at t = (form-of-reads.Asked, form-of-reads.Learnt, skip-bytes-reads.Asked, skip-bytes-reads.Learnt, group-at-below t, group-at.Post, rebuilt-reads.Asked, rebuilt-reads.Learnt, enum-at-below t, enum-at.Post, array-at-below t, array-at.Post)
 
 -- a need of `type-at`
 abbrev Ask-type-at : (type-at-lts.Claims → In 1 type-at-kinds.ps → Out 1 type-at-kinds.ps type-at-kinds.r → Type 0) → Type 0
@@ -118,7 +119,7 @@ calls-members-at t = (member-at-below t, member-at.Post)
 
 -- what `member-at` is told of the functions that it calls
 abbrev calls-member-at : ℕ → member-at-lts.Claims
-calls-member-at t = (member-head-at-reads.Asked, member-head-at-reads.Learnt, type-at-below t, type-at.Post)
+calls-member-at t = (member-head-at-reads.Asked, member-head-at-reads.Learnt, type-at-below t, type-at.Post, rebuilt-reads.Asked, rebuilt-reads.Learnt)
 
 -- a need of `member-at`
 abbrev Ask-member-at : (member-at-lts.Claims → In 1 member-at-kinds.ps → Out 1 member-at-kinds.ps member-at-kinds.r → Type 0) → Type 0
@@ -126,7 +127,7 @@ Ask-member-at N = (t : ℕ) → N (calls-member-at t) (member-at-at t) member-at
 
 -- what `group-at` is told of the functions that it calls
 abbrev calls-group-at : ℕ → group-at-lts.Claims
-calls-group-at t = (count-at-reads.Asked, count-at-reads.Learnt, members-at-below t, members-at.Post)
+calls-group-at t = (count-at-reads.Asked, count-at-reads.Learnt, members-at-below t, members-at.Post, rebuilt-reads.Asked, rebuilt-reads.Learnt)
 
 -- a need of `group-at`
 abbrev Ask-group-at : (group-at-lts.Claims → In 1 group-at-kinds.ps → Out 1 group-at-kinds.ps group-at-kinds.r → Type 0) → Type 0
@@ -134,7 +135,7 @@ Ask-group-at N = (t : ℕ) → N (calls-group-at t) (group-at-at t) group-at.Pos
 
 -- what `enum-at` is told of the functions that it calls
 abbrev calls-enum-at : ℕ → enum-at-lts.Claims
-calls-enum-at t = (count-at-reads.Asked, count-at-reads.Learnt, expr-at-reads.Asked, expr-at-reads.Learnt, members-at-below t, members-at.Post)
+calls-enum-at t = (count-at-reads.Asked, count-at-reads.Learnt, expr-at-reads.Asked, expr-at-reads.Learnt, members-at-below t, members-at.Post, rebuilt-reads.Asked, rebuilt-reads.Learnt)
 
 -- a need of `enum-at`
 abbrev Ask-enum-at : (enum-at-lts.Claims → In 1 enum-at-kinds.ps → Out 1 enum-at-kinds.ps enum-at-kinds.r → Type 0) → Type 0
@@ -142,7 +143,7 @@ Ask-enum-at N = (t : ℕ) → N (calls-enum-at t) (enum-at-at t) enum-at.Post
 
 -- what `array-at` is told of the functions that it calls
 abbrev calls-array-at : ℕ → array-at-lts.Claims
-calls-array-at t = (array-head-at-reads.Asked, array-head-at-reads.Learnt, expr-at-reads.Asked, expr-at-reads.Learnt, type-at-below t, type-at.Post)
+calls-array-at t = (array-head-at-reads.Asked, array-head-at-reads.Learnt, expr-at-reads.Asked, expr-at-reads.Learnt, type-at-below t, type-at.Post, rebuilt-reads.Asked, rebuilt-reads.Learnt)
 
 -- a need of `array-at`
 abbrev Ask-array-at : (array-at-lts.Claims → In 1 array-at-kinds.ps → Out 1 array-at-kinds.ps array-at-kinds.r → Type 0) → Type 0
@@ -163,6 +164,9 @@ array-at-enum-known-size t c = search needs
 array-at-type-at-requires : Ask-array-at array-at-lts.Need-type-at-requires
 array-at-type-at-requires t c κs = search needs
 
+array-at-rebuilt-requires : Ask-array-at array-at-lts.Need-rebuilt-requires
+array-at-rebuilt-requires t c κs = search needs
+
 array-at-enum-known-size-2 : Ask-array-at array-at-lts.Need-enum-known-size-2
 array-at-enum-known-size-2 t c = search needs
 
@@ -170,7 +174,7 @@ array-at-enum-known-head-2 : Ask-array-at array-at-lts.Need-enum-known-head-2
 array-at-enum-known-head-2 t c = search needs
 
 array-at-returns : Ask-array-at array-at-lts.Need-returns
-array-at-returns t c = c .type-at .ensures ∙ sym (array-element _ _ _ _ _ _ (sym (c .before .before .before .before .before .before .head .given .1) ∙ c .before .before .before .before .before .before .before .before .array-head-at .ensures) (sym (c .before .before .size .given .1) ∙ c .before .before .before .before .expr-at .ensures))
+array-at-returns t c = c .rebuilt .ensures ∙ c .before .type-at .ensures ∙ sym (array-element _ _ _ _ _ _ (sym (c .before .before .before .before .before .before .before .head .given .1) ∙ c .before .before .before .before .before .before .before .before .before .array-head-at .ensures) (sym (c .before .before .before .size .given .1) ∙ c .before .before .before .before .before .expr-at .ensures))
 
 array-at-returns-2 : Ask-array-at array-at-lts.Need-returns-2
 array-at-returns-2 t c = sym (array-size-refused _ _ _ _ _ _ (sym (c .before .before .before .before .before .head .given .1) ∙ c .before .before .before .before .before .before .before .array-head-at .ensures) (sym (c .before .size2 .given .1) ∙ c .before .before .before .expr-at .ensures))
@@ -193,6 +197,9 @@ enum-at-enum-known-tag t c = search needs
 enum-at-members-at-requires : Ask-enum-at enum-at-lts.Need-members-at-requires
 enum-at-members-at-requires t c κs = search needs
 
+enum-at-rebuilt-requires : Ask-enum-at enum-at-lts.Need-rebuilt-requires
+enum-at-rebuilt-requires t c κs = search needs
+
 enum-at-enum-known-tag-2 : Ask-enum-at enum-at-lts.Need-enum-known-tag-2
 enum-at-enum-known-tag-2 t c = search needs
 
@@ -200,7 +207,7 @@ enum-at-enum-known-count-2 : Ask-enum-at enum-at-lts.Need-enum-known-count-2
 enum-at-enum-known-count-2 t c = search needs
 
 enum-at-returns : Ask-enum-at enum-at-lts.Need-returns
-enum-at-returns t c = c .members-at .ensures ∙ sym (enum-members _ _ _ _ _ _ _ (sym (c .before .before .before .before .before .before .count .given .1) ∙ c .before .before .before .before .before .before .before .before .count-at .ensures) (sym (c .before .before .tag .given .1) ∙ c .before .before .before .before .expr-at .ensures))
+enum-at-returns t c = c .rebuilt .ensures ∙ c .before .members-at .ensures ∙ sym (enum-members _ _ _ _ _ _ _ (sym (c .before .before .before .before .before .before .before .count .given .1) ∙ c .before .before .before .before .before .before .before .before .before .count-at .ensures) (sym (c .before .before .before .tag .given .1) ∙ c .before .before .before .before .before .expr-at .ensures))
 
 enum-at-returns-2 : Ask-enum-at enum-at-lts.Need-returns-2
 enum-at-returns-2 t c = sym (enum-tag-refused _ _ _ _ _ _ _ (sym (c .before .before .before .before .before .count .given .1) ∙ c .before .before .before .before .before .before .before .count-at .ensures) (sym (c .before .tag2 .given .1) ∙ c .before .before .before .expr-at .ensures))
@@ -217,11 +224,14 @@ group-at-enum-known-count t c = search needs
 group-at-members-at-requires : Ask-group-at group-at-lts.Need-members-at-requires
 group-at-members-at-requires t c κs = search needs
 
+group-at-rebuilt-requires : Ask-group-at group-at-lts.Need-rebuilt-requires
+group-at-rebuilt-requires t c κs = search needs
+
 group-at-enum-known-count-2 : Ask-group-at group-at-lts.Need-enum-known-count-2
 group-at-enum-known-count-2 t c = search needs
 
 group-at-returns : Ask-group-at group-at-lts.Need-returns
-group-at-returns t c = c .members-at .ensures ∙ sym (group-ends (readExpr 0) _ _ _ _ _ _ (sym (c .before .before .count .given .1) ∙ c .before .before .before .before .count-at .ensures))
+group-at-returns t c = c .rebuilt .ensures ∙ c .before .members-at .ensures ∙ sym (group-ends (readExpr 0) _ _ _ _ _ _ (sym (c .before .before .before .count .given .1) ∙ c .before .before .before .before .before .count-at .ensures))
 
 group-at-returns-2 : Ask-group-at group-at-lts.Need-returns-2
 group-at-returns-2 t c = sym (group-wrong (readExpr 0) _ _ _ _ _ (sym (c .before .count2 .given .1) ∙ c .before .before .before .count-at .ensures))
@@ -235,11 +245,14 @@ member-at-enum-known-head t c = search needs
 member-at-type-at-requires : Ask-member-at member-at-lts.Need-type-at-requires
 member-at-type-at-requires t c κs = search needs
 
+member-at-rebuilt-requires : Ask-member-at member-at-lts.Need-rebuilt-requires
+member-at-rebuilt-requires t c κs = search needs
+
 member-at-enum-known-head-2 : Ask-member-at member-at-lts.Need-enum-known-head-2
 member-at-enum-known-head-2 t c = search needs
 
 member-at-returns : Ask-member-at member-at-lts.Need-returns
-member-at-returns t c = c .type-at .ensures ∙ sym (member-type (readExpr 0) _ _ _ _ _ (sym (c .before .before .head .given .1) ∙ c .before .before .before .before .member-head-at .ensures))
+member-at-returns t c = c .rebuilt .ensures ∙ c .before .type-at .ensures ∙ sym (member-type (readExpr 0) _ _ _ _ _ (sym (c .before .before .before .head .given .1) ∙ c .before .before .before .before .before .member-head-at .ensures))
 
 member-at-returns-2 : Ask-member-at member-at-lts.Need-returns-2
 member-at-returns-2 t c = sym (member-head-refused (readExpr 0) _ _ _ _ _ (sym (c .before .head2 .given .1) ∙ c .before .before .before .member-head-at .ensures))
@@ -325,6 +338,9 @@ type-at-sub-group-at t c = search needs
 type-at-group-at-requires : Ask-type-at type-at-lts.Need-group-at-requires
 type-at-group-at-requires t c κs = search needs
 
+type-at-rebuilt-requires : Ask-type-at type-at-lts.Need-rebuilt-requires
+type-at-rebuilt-requires t c κs = search needs
+
 type-at-enum-told-4 : Ask-type-at type-at-lts.Need-enum-told-4
 type-at-enum-told-4 t c = search needs
 
@@ -333,6 +349,9 @@ type-at-sub-group-at-2 t c = search needs
 
 type-at-group-at-requires-2 : Ask-type-at type-at-lts.Need-group-at-requires-2
 type-at-group-at-requires-2 t c κs = search needs
+
+type-at-rebuilt-requires-2 : Ask-type-at type-at-lts.Need-rebuilt-requires-2
+type-at-rebuilt-requires-2 t c κs = search needs
 
 type-at-enum-told-5 : Ask-type-at type-at-lts.Need-enum-told-5
 type-at-enum-told-5 t c = search needs
@@ -343,6 +362,9 @@ type-at-sub-enum-at t c = search needs
 type-at-enum-at-requires : Ask-type-at type-at-lts.Need-enum-at-requires
 type-at-enum-at-requires t c κs = search needs
 
+type-at-rebuilt-requires-3 : Ask-type-at type-at-lts.Need-rebuilt-requires-3
+type-at-rebuilt-requires-3 t c κs = search needs
+
 type-at-enum-told-6 : Ask-type-at type-at-lts.Need-enum-told-6
 type-at-enum-told-6 t c = search needs
 
@@ -351,6 +373,9 @@ type-at-sub-array-at t c = search needs
 
 type-at-array-at-requires : Ask-type-at type-at-lts.Need-array-at-requires
 type-at-array-at-requires t c κs = search needs
+
+type-at-rebuilt-requires-4 : Ask-type-at type-at-lts.Need-rebuilt-requires-4
+type-at-rebuilt-requires-4 t c κs = search needs
 
 type-at-enum-told-7 : Ask-type-at type-at-lts.Need-enum-told-7
 type-at-enum-told-7 t c = search needs
@@ -361,6 +386,9 @@ type-at-sub-group-at-3 t c = search needs
 type-at-group-at-requires-3 : Ask-type-at type-at-lts.Need-group-at-requires-3
 type-at-group-at-requires-3 t c κs = search needs
 
+type-at-rebuilt-requires-5 : Ask-type-at type-at-lts.Need-rebuilt-requires-5
+type-at-rebuilt-requires-5 t c κs = search needs
+
 type-at-returns-4 : Ask-type-at type-at-lts.Need-returns-4
 type-at-returns-4 t c = sym (primitive-ends (opened t (c .before .before .before .before .before)) (primitive-meant (cc)))
 
@@ -368,19 +396,19 @@ type-at-returns-5 : Ask-type-at type-at-lts.Need-returns-5
 type-at-returns-5 t c = c .skip-bytes .ensures ∙ sym (typeRef-ends (opened t (c .before .before .before .before .before .before)) (typeRef-meant (cc)))
 
 type-at-returns-6 : Ask-type-at type-at-lts.Need-returns-6
-type-at-returns-6 t c = c .group-at .ensures ∙ sym (struct-ends (opened t (c .before .before .before .before .before .before)) (struct-meant (cc)))
+type-at-returns-6 t c = c .rebuilt .ensures ∙ c .before .group-at .ensures ∙ sym (struct-ends (opened t (c .before .before .before .before .before .before .before)) (struct-meant (cc)))
 
 type-at-returns-7 : Ask-type-at type-at-lts.Need-returns-7
-type-at-returns-7 t c = c .group-at2 .ensures ∙ sym (union-ends (opened t (c .before .before .before .before .before .before)) (union-meant (cc)))
+type-at-returns-7 t c = c .rebuilt2 .ensures ∙ c .before .group-at2 .ensures ∙ sym (union-ends (opened t (c .before .before .before .before .before .before .before)) (union-meant (cc)))
 
 type-at-returns-8 : Ask-type-at type-at-lts.Need-returns-8
-type-at-returns-8 t c = c .enum-at .ensures ∙ sym (enum-ends (opened t (c .before .before .before .before .before .before)) (enum-meant (cc)))
+type-at-returns-8 t c = c .rebuilt3 .ensures ∙ c .before .enum-at .ensures ∙ sym (enum-ends (opened t (c .before .before .before .before .before .before .before)) (enum-meant (cc)))
 
 type-at-returns-9 : Ask-type-at type-at-lts.Need-returns-9
-type-at-returns-9 t c = c .array-at .ensures ∙ sym (array-ends (opened t (c .before .before .before .before .before .before)) (array-meant (cc)))
+type-at-returns-9 t c = c .rebuilt4 .ensures ∙ c .before .array-at .ensures ∙ sym (array-ends (opened t (c .before .before .before .before .before .before .before)) (array-meant (cc)))
 
 type-at-returns-10 : Ask-type-at type-at-lts.Need-returns-10
-type-at-returns-10 t c = c .group-at3 .ensures ∙ sym (sizeUnion-ends (opened t (c .before .before .before .before .before .before)) (sizeUnion-meant (cc)))
+type-at-returns-10 t c = c .rebuilt5 .ensures ∙ c .before .group-at3 .ensures ∙ sym (sizeUnion-ends (opened t (c .before .before .before .before .before .before .before)) (sizeUnion-meant (cc)))
 
 pub +array-at+enum-at+group-at+member-at+members-at+type-at-spec : {M : Type 1} → statement M
 +array-at+enum-at+group-at+member-at+members-at+type-at-spec =
@@ -398,6 +426,7 @@ pub +array-at+enum-at+group-at+member-at+members-at+type-at-spec : {M : Type 1} 
     (array-at-expr-at-requires t)
     (array-at-enum-known-size t)
     (array-at-type-at-requires t)
+    (array-at-rebuilt-requires t)
     (array-at-enum-known-size-2 t)
     (array-at-enum-known-head-2 t)
     (array-at-returns t)
@@ -410,6 +439,7 @@ pub +array-at+enum-at+group-at+member-at+members-at+type-at-spec : {M : Type 1} 
     (enum-at-expr-at-requires t)
     (enum-at-enum-known-tag t)
     (enum-at-members-at-requires t)
+    (enum-at-rebuilt-requires t)
     (enum-at-enum-known-tag-2 t)
     (enum-at-enum-known-count-2 t)
     (enum-at-returns t)
@@ -420,6 +450,7 @@ pub +array-at+enum-at+group-at+member-at+members-at+type-at-spec : {M : Type 1} 
     (group-at-count-at-requires t)
     (group-at-enum-known-count t)
     (group-at-members-at-requires t)
+    (group-at-rebuilt-requires t)
     (group-at-enum-known-count-2 t)
     (group-at-returns t)
     (group-at-returns-2 t))
@@ -428,6 +459,7 @@ pub +array-at+enum-at+group-at+member-at+members-at+type-at-spec : {M : Type 1} 
     (member-at-member-head-at-requires t)
     (member-at-enum-known-head t)
     (member-at-type-at-requires t)
+    (member-at-rebuilt-requires t)
     (member-at-enum-known-head-2 t)
     (member-at-returns t)
     (member-at-returns-2 t))
@@ -459,18 +491,23 @@ pub +array-at+enum-at+group-at+member-at+members-at+type-at-spec : {M : Type 1} 
     (type-at-enum-told-3 t)
     (type-at-sub-group-at t)
     (type-at-group-at-requires t)
+    (type-at-rebuilt-requires t)
     (type-at-enum-told-4 t)
     (type-at-sub-group-at-2 t)
     (type-at-group-at-requires-2 t)
+    (type-at-rebuilt-requires-2 t)
     (type-at-enum-told-5 t)
     (type-at-sub-enum-at t)
     (type-at-enum-at-requires t)
+    (type-at-rebuilt-requires-3 t)
     (type-at-enum-told-6 t)
     (type-at-sub-array-at t)
     (type-at-array-at-requires t)
+    (type-at-rebuilt-requires-4 t)
     (type-at-enum-told-7 t)
     (type-at-sub-group-at-3 t)
     (type-at-group-at-requires-3 t)
+    (type-at-rebuilt-requires-5 t)
     (type-at-returns-4 t)
     (type-at-returns-5 t)
     (type-at-returns-6 t)

@@ -32,6 +32,7 @@ use Rattle.bundle.proofs.definition_of.Reads as definition-of-reads
 use Rattle.bundle.proofs.expr_at.Reads as expr-at-reads
 use Rattle.bundle.proofs.form_of.Reads as form-of-reads
 use Rattle.bundle.proofs.member_head_at.Reads as member-head-at-reads
+use Rattle.bundle.proofs.rebuilt.Reads as rebuilt-reads
 use Rattle.bundle.proofs.u16_at.Reads as u16-at-reads
 use Rattle.bundle.proofs.+walk_array+walk_definition+walk_enum+walk_group+walk_members+walk_name+walk_type.{statement}
 use Rattle.bundle.proofs.+walk_array+walk_definition+walk_enum+walk_group+walk_members+walk_name+walk_type.Tie.{close}
@@ -141,7 +142,7 @@ walk-type-below t =
 
 -- what `walk-type` is told of the functions that it calls
 abbrev calls-walk-type : ℕ → walk-type-lts.Claims
-calls-walk-type t = (form-of-reads.Asked, form-of-reads.Learnt, walk-name-below t, walk-name.Post, walk-group-below t, walk-group.Post, walk-enum-below t, walk-enum.Post, walk-array-below t, walk-array.Post)
+calls-walk-type t = (form-of-reads.Asked, form-of-reads.Learnt, walk-name-below t, walk-name.Post, rebuilt-reads.Asked, rebuilt-reads.Learnt, walk-group-below t, walk-group.Post, walk-enum-below t, walk-enum.Post, walk-array-below t, walk-array.Post)
 
 -- a need of `walk-type`
 abbrev Ask-walk-type : (walk-type-lts.Claims → In 3 walk-type-kinds.ps → Out 3 walk-type-kinds.ps walk-type-kinds.r → Type 0) → Type 0
@@ -161,7 +162,7 @@ calls-walk-members t = (member-head-at-reads.Asked, member-head-at-reads.Learnt,
 
 -- what `walk-group` is told of the functions that it calls
 abbrev calls-walk-group : ℕ → walk-group-lts.Claims
-calls-walk-group t = (count-at-reads.Asked, count-at-reads.Learnt, walk-members-below t, walk-members.Post)
+calls-walk-group t = (count-at-reads.Asked, count-at-reads.Learnt, walk-members-below t, walk-members.Post, rebuilt-reads.Asked, rebuilt-reads.Learnt)
 
 -- a need of `walk-group`
 abbrev Ask-walk-group : (walk-group-lts.Claims → In 3 walk-group-kinds.ps → Out 3 walk-group-kinds.ps walk-group-kinds.r → Type 0) → Type 0
@@ -169,7 +170,7 @@ Ask-walk-group N = (t : ℕ) → N (calls-walk-group t) (walk-group-at t) walk-g
 
 -- what `walk-enum` is told of the functions that it calls
 abbrev calls-walk-enum : ℕ → walk-enum-lts.Claims
-calls-walk-enum t = (count-at-reads.Asked, count-at-reads.Learnt, expr-at-reads.Asked, expr-at-reads.Learnt, walk-members-below t, walk-members.Post)
+calls-walk-enum t = (count-at-reads.Asked, count-at-reads.Learnt, expr-at-reads.Asked, expr-at-reads.Learnt, walk-members-below t, walk-members.Post, rebuilt-reads.Asked, rebuilt-reads.Learnt)
 
 -- a need of `walk-enum`
 abbrev Ask-walk-enum : (walk-enum-lts.Claims → In 3 walk-enum-kinds.ps → Out 3 walk-enum-kinds.ps walk-enum-kinds.r → Type 0) → Type 0
@@ -185,7 +186,7 @@ Ask-walk-definition N = (t : ℕ) → N (calls-walk-definition t) (walk-definiti
 
 -- what `walk-array` is told of the functions that it calls
 abbrev calls-walk-array : ℕ → walk-array-lts.Claims
-calls-walk-array t = (array-head-at-reads.Asked, array-head-at-reads.Learnt, expr-at-reads.Asked, expr-at-reads.Learnt, walk-type-below t, walk-type.Post)
+calls-walk-array t = (array-head-at-reads.Asked, array-head-at-reads.Learnt, expr-at-reads.Asked, expr-at-reads.Learnt, walk-type-below t, walk-type.Post, rebuilt-reads.Asked, rebuilt-reads.Learnt)
 
 -- a need of `walk-array`
 abbrev Ask-walk-array : (walk-array-lts.Claims → In 3 walk-array-kinds.ps → Out 3 walk-array-kinds.ps walk-array-kinds.r → Type 0) → Type 0
@@ -206,6 +207,9 @@ walk-array-enum-known-size t c = search needs
 walk-array-walk-type-requires : Ask-walk-array walk-array-lts.Need-walk-type-requires
 walk-array-walk-type-requires t c κs = (omega (arith, c .before .before .before .before .before .before .before .before .before .before .before .pre .0), (c .before .before .before .before .before .before .before .before .before .before .before .pre .1 .1, (element-reads _ _ _ _ _ (sym (c .before .before .before .before .before .before .head .given .1) ∙ c .before .before .before .before .before .before .before .before .array-head-at .ensures) (c .before .before .before .before .before .before .before .before .before .before .before .pre .1 .2 .0) _ (sym (c .before .before .size .given .1) ∙ c .before .before .before .before .expr-at .ensures), marks-same (array-leads _ _ _ _ _ _ (c .before .before .before .before .before .before .before .before .before .before .before .pre .1 .2 .0) (sym (c .before .before .before .before .before .before .head .given .1) ∙ c .before .before .before .before .before .before .before .before .array-head-at .ensures) (sym (c .before .before .size .given .1) ∙ c .before .before .before .before .expr-at .ensures)) (c .before .before .before .before .before .before .before .before .before .before .before .pre .1 .2 .1))))
 
+walk-array-rebuilt-requires : Ask-walk-array walk-array-lts.Need-rebuilt-requires
+walk-array-rebuilt-requires t c κs = search needs
+
 walk-array-enum-told : Ask-walk-array walk-array-lts.Need-enum-told
 walk-array-enum-told t c = search needs
 
@@ -213,7 +217,7 @@ walk-array-enum-told-2 : Ask-walk-array walk-array-lts.Need-enum-told-2
 walk-array-enum-told-2 t c = search needs
 
 walk-array-returns : Ask-walk-array walk-array-lts.Need-returns
-walk-array-returns t c = walked-same _ _ (array-leads _ _ _ _ _ _ (c .before .before .before .before .before .before .before .before .before .before .before .before .pre .1 .2 .0) (sym (c .before .before .before .before .before .before .before .head .given .1) ∙ c .before .before .before .before .before .before .before .before .before .array-head-at .ensures) (sym (c .before .before .before .size .given .1) ∙ c .before .before .before .before .before .expr-at .ensures)) (array-element _ _ _ _ _ _ (sym (c .before .before .before .before .before .before .before .head .given .1) ∙ c .before .before .before .before .before .before .before .before .before .array-head-at .ensures) (sym (c .before .before .before .size .given .1) ∙ c .before .before .before .before .before .expr-at .ensures)) (c .walk-type .ensures)
+walk-array-returns t c = rw (c .rebuilt .ensures) (walked-same _ _ (array-leads _ _ _ _ _ _ (c .before .before .before .before .before .before .before .before .before .before .before .before .before .pre .1 .2 .0) (sym (c .before .before .before .before .before .before .before .before .head .given .1) ∙ c .before .before .before .before .before .before .before .before .before .before .array-head-at .ensures) (sym (c .before .before .before .before .size .given .1) ∙ c .before .before .before .before .before .before .expr-at .ensures)) (array-element _ _ _ _ _ _ (sym (c .before .before .before .before .before .before .before .before .head .given .1) ∙ c .before .before .before .before .before .before .before .before .before .before .array-head-at .ensures) (sym (c .before .before .before .before .size .given .1) ∙ c .before .before .before .before .before .before .expr-at .ensures)) (c .before .walk-type .ensures))
 
 walk-array-returns-2 : Ask-walk-array walk-array-lts.Need-returns-2
 walk-array-returns-2 t c = absurd (size-no _ _ _ (c .before .before .before .before .before .before .before .before .before .pre .1 .2 .0) _ _ (sym (c .before .before .before .before .head .given .1) ∙ c .before .before .before .before .before .before .array-head-at .ensures) (sym (c .enum-told .given .1) ∙ c .before .before .expr-at .ensures))
@@ -275,6 +279,9 @@ walk-enum-enum-known-tag t c = search needs
 walk-enum-walk-members-requires : Ask-walk-enum walk-enum-lts.Need-walk-members-requires
 walk-enum-walk-members-requires t c κs = (omega (arith, c .before .before .before .before .before .before .before .before .before .before .before .pre .0), (c .before .before .before .before .before .before .before .before .before .before .before .pre .1 .1, (variants-read _ _ _ _ _ _ (sym (c .before .before .before .before .before .before .head .given .1) ∙ c .before .before .before .before .before .before .before .before .count-at .ensures) (c .before .before .before .before .before .before .before .before .before .before .before .pre .1 .2 .0) _ (sym (c .before .before .tag .given .1) ∙ c .before .before .before .before .expr-at .ensures), marks-same (enum-leads _ _ _ _ _ _ _ (sym (c .before .before .before .before .before .before .head .given .1) ∙ c .before .before .before .before .before .before .before .before .count-at .ensures) (c .before .before .before .before .before .before .before .before .before .before .before .pre .1 .2 .0) (sym (c .before .before .tag .given .1) ∙ c .before .before .before .before .expr-at .ensures)) (c .before .before .before .before .before .before .before .before .before .before .before .pre .1 .2 .1))))
 
+walk-enum-rebuilt-requires : Ask-walk-enum walk-enum-lts.Need-rebuilt-requires
+walk-enum-rebuilt-requires t c κs = search needs
+
 walk-enum-enum-told : Ask-walk-enum walk-enum-lts.Need-enum-told
 walk-enum-enum-told t c = search needs
 
@@ -282,7 +289,7 @@ walk-enum-enum-told-2 : Ask-walk-enum walk-enum-lts.Need-enum-told-2
 walk-enum-enum-told-2 t c = search needs
 
 walk-enum-returns : Ask-walk-enum walk-enum-lts.Need-returns
-walk-enum-returns t c = walked-same _ _ (enum-leads _ _ _ _ _ _ _ (sym (c .before .before .before .before .before .before .before .head .given .1) ∙ c .before .before .before .before .before .before .before .before .before .count-at .ensures) (c .before .before .before .before .before .before .before .before .before .before .before .before .pre .1 .2 .0) (sym (c .before .before .before .tag .given .1) ∙ c .before .before .before .before .before .expr-at .ensures)) (enum-members _ _ _ _ _ _ _ (sym (c .before .before .before .before .before .before .before .head .given .1) ∙ c .before .before .before .before .before .before .before .before .before .count-at .ensures) (sym (c .before .before .before .tag .given .1) ∙ c .before .before .before .before .before .expr-at .ensures)) (c .walk-members .ensures)
+walk-enum-returns t c = rw (c .rebuilt .ensures) (walked-same _ _ (enum-leads _ _ _ _ _ _ _ (sym (c .before .before .before .before .before .before .before .before .head .given .1) ∙ c .before .before .before .before .before .before .before .before .before .before .count-at .ensures) (c .before .before .before .before .before .before .before .before .before .before .before .before .before .pre .1 .2 .0) (sym (c .before .before .before .before .tag .given .1) ∙ c .before .before .before .before .before .before .expr-at .ensures)) (enum-members _ _ _ _ _ _ _ (sym (c .before .before .before .before .before .before .before .before .head .given .1) ∙ c .before .before .before .before .before .before .before .before .before .before .count-at .ensures) (sym (c .before .before .before .before .tag .given .1) ∙ c .before .before .before .before .before .before .expr-at .ensures)) (c .before .walk-members .ensures))
 
 walk-enum-returns-2 : Ask-walk-enum walk-enum-lts.Need-returns-2
 walk-enum-returns-2 t c = absurd (tag-no _ _ _ (c .before .before .before .before .before .before .before .before .before .pre .1 .2 .0) _ _ _ (sym (c .before .before .before .before .head .given .1) ∙ c .before .before .before .before .before .before .count-at .ensures) (sym (c .enum-told .given .1) ∙ c .before .before .expr-at .ensures))
@@ -299,11 +306,14 @@ walk-group-enum-known-head t c = search needs
 walk-group-walk-members-requires : Ask-walk-group walk-group-lts.Need-walk-members-requires
 walk-group-walk-members-requires t c κs = (omega (arith, c .before .before .before .before .before .before .before .pre .0), (c .before .before .before .before .before .before .before .pre .1 .1, (group-reads _ _ _ _ _ _ (sym (c .before .before .head .given .1) ∙ c .before .before .before .before .count-at .ensures) (c .before .before .before .before .before .before .before .pre .1 .2 .0), marks-same (ap (membersLead _) (group-value _ _ _ _ _ _ (sym (c .before .before .head .given .1) ∙ c .before .before .before .before .count-at .ensures) (c .before .before .before .before .before .before .before .pre .1 .2 .0) zeroGroup)) (c .before .before .before .before .before .before .before .pre .1 .2 .1))))
 
+walk-group-rebuilt-requires : Ask-walk-group walk-group-lts.Need-rebuilt-requires
+walk-group-rebuilt-requires t c κs = search needs
+
 walk-group-enum-told : Ask-walk-group walk-group-lts.Need-enum-told
 walk-group-enum-told t c = search needs
 
 walk-group-returns : Ask-walk-group walk-group-lts.Need-returns
-walk-group-returns t c = walked-same _ _ (ap (membersLead _) (group-value _ _ _ _ _ _ (sym (c .before .before .before .head .given .1) ∙ c .before .before .before .before .before .count-at .ensures) (c .before .before .before .before .before .before .before .before .pre .1 .2 .0) zeroGroup)) (group-ends (readExpr 0) _ _ _ _ _ _ (sym (c .before .before .before .head .given .1) ∙ c .before .before .before .before .before .count-at .ensures)) (c .walk-members .ensures)
+walk-group-returns t c = rw (c .rebuilt .ensures) (walked-same _ _ (ap (membersLead _) (group-value _ _ _ _ _ _ (sym (c .before .before .before .before .head .given .1) ∙ c .before .before .before .before .before .before .count-at .ensures) (c .before .before .before .before .before .before .before .before .before .pre .1 .2 .0) zeroGroup)) (group-ends (readExpr 0) _ _ _ _ _ _ (sym (c .before .before .before .before .head .given .1) ∙ c .before .before .before .before .before .before .count-at .ensures)) (c .before .walk-members .ensures))
 
 walk-group-returns-2 : Ask-walk-group walk-group-lts.Need-returns-2
 walk-group-returns-2 t c = absurd (group-no _ _ _ _ _ (c .before .before .before .before .before .pre .1 .2 .0) (sym (c .enum-told .given .1) ∙ c .before .before .count-at .ensures))
@@ -411,6 +421,9 @@ walk-type-enum-told-2 t c = search needs
 walk-type-walk-name-requires : Ask-walk-type walk-type-lts.Need-walk-name-requires
 walk-type-walk-name-requires t c κs = (omega (arith, type-deep _ _ _ (c .before .before .before .before .before .before .before .before .before .before .pre .1 .1 .0), c .before .before .before .before .before .before .before .before .before .before .pre .0), (typeRef-there (opened t (c .before .before .before .before .before .before)) (c .before .before .before .before .before .before .before .before .before .before .pre .1 .1 .0) (typeRef-meant (cc)), c .before .before .before .before .before .before .before .before .before .before .pre .1 .0, (tt, marks-same (typeRef-leads _ (opened t (c .before .before .before .before .before .before)) (c .before .before .before .before .before .before .before .before .before .before .pre .1 .1 .0) (typeRef-meant (cc))) (c .before .before .before .before .before .before .before .before .before .before .pre .1 .1 .1))))
 
+walk-type-rebuilt-requires : Ask-walk-type walk-type-lts.Need-rebuilt-requires
+walk-type-rebuilt-requires t c κs = search needs
+
 walk-type-enum-told-3 : Ask-walk-type walk-type-lts.Need-enum-told-3
 walk-type-enum-told-3 t c = search needs
 
@@ -419,6 +432,9 @@ walk-type-sub-walk-group t c = omega (arith, type-deep _ _ _ (c .before .before 
 
 walk-type-walk-group-requires : Ask-walk-type walk-type-lts.Need-walk-group-requires
 walk-type-walk-group-requires t c κs = (omega (arith, type-deep _ _ _ (c .before .before .before .before .before .before .before .before .before .before .pre .1 .1 .0), c .before .before .before .before .before .before .before .before .before .before .pre .0), (omega (arith, type-there _ _ _ (c .before .before .before .before .before .before .before .before .before .before .pre .1 .1 .0)), c .before .before .before .before .before .before .before .before .before .before .pre .1 .0, (struct-reads (opened t (c .before .before .before .before .before .before)) (c .before .before .before .before .before .before .before .before .before .before .pre .1 .1 .0) (struct-meant (cc)), marks-same (struct-leads _ (opened t (c .before .before .before .before .before .before)) (c .before .before .before .before .before .before .before .before .before .before .pre .1 .1 .0) (struct-meant (cc))) (c .before .before .before .before .before .before .before .before .before .before .pre .1 .1 .1))))
+
+walk-type-rebuilt-requires-2 : Ask-walk-type walk-type-lts.Need-rebuilt-requires-2
+walk-type-rebuilt-requires-2 t c κs = search needs
 
 walk-type-enum-told-4 : Ask-walk-type walk-type-lts.Need-enum-told-4
 walk-type-enum-told-4 t c = search needs
@@ -429,6 +445,9 @@ walk-type-sub-walk-group-2 t c = omega (arith, type-deep _ _ _ (c .before .befor
 walk-type-walk-group-requires-2 : Ask-walk-type walk-type-lts.Need-walk-group-requires-2
 walk-type-walk-group-requires-2 t c κs = (omega (arith, type-deep _ _ _ (c .before .before .before .before .before .before .before .before .before .before .pre .1 .1 .0), c .before .before .before .before .before .before .before .before .before .before .pre .0), (omega (arith, type-there _ _ _ (c .before .before .before .before .before .before .before .before .before .before .pre .1 .1 .0)), c .before .before .before .before .before .before .before .before .before .before .pre .1 .0, (union-reads (opened t (c .before .before .before .before .before .before)) (c .before .before .before .before .before .before .before .before .before .before .pre .1 .1 .0) (union-meant (cc)), marks-same (union-leads _ (opened t (c .before .before .before .before .before .before)) (c .before .before .before .before .before .before .before .before .before .before .pre .1 .1 .0) (union-meant (cc))) (c .before .before .before .before .before .before .before .before .before .before .pre .1 .1 .1))))
 
+walk-type-rebuilt-requires-3 : Ask-walk-type walk-type-lts.Need-rebuilt-requires-3
+walk-type-rebuilt-requires-3 t c κs = search needs
+
 walk-type-enum-told-5 : Ask-walk-type walk-type-lts.Need-enum-told-5
 walk-type-enum-told-5 t c = search needs
 
@@ -437,6 +456,9 @@ walk-type-sub-walk-enum t c = omega (arith, type-deep _ _ _ (c .before .before .
 
 walk-type-walk-enum-requires : Ask-walk-type walk-type-lts.Need-walk-enum-requires
 walk-type-walk-enum-requires t c κs = (omega (arith, type-deep _ _ _ (c .before .before .before .before .before .before .before .before .before .before .pre .1 .1 .0), c .before .before .before .before .before .before .before .before .before .before .pre .0), (omega (arith, type-there _ _ _ (c .before .before .before .before .before .before .before .before .before .before .pre .1 .1 .0)), c .before .before .before .before .before .before .before .before .before .before .pre .1 .0, (enum-reads (opened t (c .before .before .before .before .before .before)) (c .before .before .before .before .before .before .before .before .before .before .pre .1 .1 .0) (enum-meant (cc)), marks-same (ap (typeLeads _) (enum-tree (opened t (c .before .before .before .before .before .before)) (c .before .before .before .before .before .before .before .before .before .before .pre .1 .1 .0) (enum-meant (cc)))) (c .before .before .before .before .before .before .before .before .before .before .pre .1 .1 .1))))
+
+walk-type-rebuilt-requires-4 : Ask-walk-type walk-type-lts.Need-rebuilt-requires-4
+walk-type-rebuilt-requires-4 t c κs = search needs
 
 walk-type-enum-told-6 : Ask-walk-type walk-type-lts.Need-enum-told-6
 walk-type-enum-told-6 t c = search needs
@@ -447,6 +469,9 @@ walk-type-sub-walk-array t c = omega (arith, type-deep _ _ _ (c .before .before 
 walk-type-walk-array-requires : Ask-walk-type walk-type-lts.Need-walk-array-requires
 walk-type-walk-array-requires t c κs = (omega (arith, type-deep _ _ _ (c .before .before .before .before .before .before .before .before .before .before .pre .1 .1 .0), c .before .before .before .before .before .before .before .before .before .before .pre .0), (omega (arith, type-there _ _ _ (c .before .before .before .before .before .before .before .before .before .before .pre .1 .1 .0)), c .before .before .before .before .before .before .before .before .before .before .pre .1 .0, (array-reads (opened t (c .before .before .before .before .before .before)) (c .before .before .before .before .before .before .before .before .before .before .pre .1 .1 .0) (array-meant (cc)), marks-same (ap (typeLeads _) (array-tree (opened t (c .before .before .before .before .before .before)) (c .before .before .before .before .before .before .before .before .before .before .pre .1 .1 .0) (array-meant (cc)))) (c .before .before .before .before .before .before .before .before .before .before .pre .1 .1 .1))))
 
+walk-type-rebuilt-requires-5 : Ask-walk-type walk-type-lts.Need-rebuilt-requires-5
+walk-type-rebuilt-requires-5 t c κs = search needs
+
 walk-type-enum-told-7 : Ask-walk-type walk-type-lts.Need-enum-told-7
 walk-type-enum-told-7 t c = search needs
 
@@ -456,26 +481,29 @@ walk-type-sub-walk-group-3 t c = omega (arith, type-deep _ _ _ (c .before .befor
 walk-type-walk-group-requires-3 : Ask-walk-type walk-type-lts.Need-walk-group-requires-3
 walk-type-walk-group-requires-3 t c κs = (omega (arith, type-deep _ _ _ (c .before .before .before .before .before .before .before .before .before .before .pre .1 .1 .0), c .before .before .before .before .before .before .before .before .before .before .pre .0), (omega (arith, type-there _ _ _ (c .before .before .before .before .before .before .before .before .before .before .pre .1 .1 .0)), c .before .before .before .before .before .before .before .before .before .before .pre .1 .0, (sizeUnion-reads (opened t (c .before .before .before .before .before .before)) (c .before .before .before .before .before .before .before .before .before .before .pre .1 .1 .0) (sizeUnion-meant (cc)), marks-same (sizeUnion-leads _ (opened t (c .before .before .before .before .before .before)) (c .before .before .before .before .before .before .before .before .before .before .pre .1 .1 .0) (sizeUnion-meant (cc))) (c .before .before .before .before .before .before .before .before .before .before .pre .1 .1 .1))))
 
+walk-type-rebuilt-requires-6 : Ask-walk-type walk-type-lts.Need-rebuilt-requires-6
+walk-type-rebuilt-requires-6 t c κs = search needs
+
 walk-type-returns-2 : Ask-walk-type walk-type-lts.Need-returns-2
 walk-type-returns-2 t c = ended (sym (primitive-ends (opened t (c .before .before .before .before .before)) (primitive-meant (cc)))) (rw (primitive-leads _ (opened t (c .before .before .before .before .before)) (c .before .before .before .before .before .before .before .before .before .pre .1 .1 .0) (primitive-meant (cc))) (followed-none (c .before .before .before .before .before .before .before .before .before .pre .1 .1 .1)))
 
 walk-type-returns-3 : Ask-walk-type walk-type-lts.Need-returns-3
-walk-type-returns-3 t c = walked-same _ _ (typeRef-leads _ (opened t (c .before .before .before .before .before .before .before)) (c .before .before .before .before .before .before .before .before .before .before .before .pre .1 .1 .0) (typeRef-meant (cc))) (typeRef-next (opened t (c .before .before .before .before .before .before .before)) (c .before .before .before .before .before .before .before .before .before .before .before .pre .1 .1 .0) (typeRef-meant (cc))) (c .walk-name .ensures)
+walk-type-returns-3 t c = rw (c .rebuilt .ensures) (walked-same _ _ (typeRef-leads _ (opened t (c .before .before .before .before .before .before .before .before)) (c .before .before .before .before .before .before .before .before .before .before .before .before .pre .1 .1 .0) (typeRef-meant (cc))) (typeRef-next (opened t (c .before .before .before .before .before .before .before .before)) (c .before .before .before .before .before .before .before .before .before .before .before .before .pre .1 .1 .0) (typeRef-meant (cc))) (c .before .walk-name .ensures))
 
 walk-type-returns-4 : Ask-walk-type walk-type-lts.Need-returns-4
-walk-type-returns-4 t c = walked-same _ _ (struct-leads _ (opened t (c .before .before .before .before .before .before .before)) (c .before .before .before .before .before .before .before .before .before .before .before .pre .1 .1 .0) (struct-meant (cc))) (struct-ends (opened t (c .before .before .before .before .before .before .before)) (struct-meant (cc))) (c .walk-group .ensures)
+walk-type-returns-4 t c = rw (c .rebuilt2 .ensures) (walked-same _ _ (struct-leads _ (opened t (c .before .before .before .before .before .before .before .before)) (c .before .before .before .before .before .before .before .before .before .before .before .before .pre .1 .1 .0) (struct-meant (cc))) (struct-ends (opened t (c .before .before .before .before .before .before .before .before)) (struct-meant (cc))) (c .before .walk-group .ensures))
 
 walk-type-returns-5 : Ask-walk-type walk-type-lts.Need-returns-5
-walk-type-returns-5 t c = walked-same _ _ (union-leads _ (opened t (c .before .before .before .before .before .before .before)) (c .before .before .before .before .before .before .before .before .before .before .before .pre .1 .1 .0) (union-meant (cc))) (union-ends (opened t (c .before .before .before .before .before .before .before)) (union-meant (cc))) (c .walk-group2 .ensures)
+walk-type-returns-5 t c = rw (c .rebuilt3 .ensures) (walked-same _ _ (union-leads _ (opened t (c .before .before .before .before .before .before .before .before)) (c .before .before .before .before .before .before .before .before .before .before .before .before .pre .1 .1 .0) (union-meant (cc))) (union-ends (opened t (c .before .before .before .before .before .before .before .before)) (union-meant (cc))) (c .before .walk-group2 .ensures))
 
 walk-type-returns-6 : Ask-walk-type walk-type-lts.Need-returns-6
-walk-type-returns-6 t c = walked-same _ _ (ap (typeLeads _) (enum-tree (opened t (c .before .before .before .before .before .before .before)) (c .before .before .before .before .before .before .before .before .before .before .before .pre .1 .1 .0) (enum-meant (cc)))) (enum-ends (opened t (c .before .before .before .before .before .before .before)) (enum-meant (cc))) (c .walk-enum .ensures)
+walk-type-returns-6 t c = rw (c .rebuilt4 .ensures) (walked-same _ _ (ap (typeLeads _) (enum-tree (opened t (c .before .before .before .before .before .before .before .before)) (c .before .before .before .before .before .before .before .before .before .before .before .before .pre .1 .1 .0) (enum-meant (cc)))) (enum-ends (opened t (c .before .before .before .before .before .before .before .before)) (enum-meant (cc))) (c .before .walk-enum .ensures))
 
 walk-type-returns-7 : Ask-walk-type walk-type-lts.Need-returns-7
-walk-type-returns-7 t c = walked-same _ _ (ap (typeLeads _) (array-tree (opened t (c .before .before .before .before .before .before .before)) (c .before .before .before .before .before .before .before .before .before .before .before .pre .1 .1 .0) (array-meant (cc)))) (array-ends (opened t (c .before .before .before .before .before .before .before)) (array-meant (cc))) (c .walk-array .ensures)
+walk-type-returns-7 t c = rw (c .rebuilt5 .ensures) (walked-same _ _ (ap (typeLeads _) (array-tree (opened t (c .before .before .before .before .before .before .before .before)) (c .before .before .before .before .before .before .before .before .before .before .before .before .pre .1 .1 .0) (array-meant (cc)))) (array-ends (opened t (c .before .before .before .before .before .before .before .before)) (array-meant (cc))) (c .before .walk-array .ensures))
 
 walk-type-returns-8 : Ask-walk-type walk-type-lts.Need-returns-8
-walk-type-returns-8 t c = walked-same _ _ (sizeUnion-leads _ (opened t (c .before .before .before .before .before .before .before)) (c .before .before .before .before .before .before .before .before .before .before .before .pre .1 .1 .0) (sizeUnion-meant (cc))) (sizeUnion-ends (opened t (c .before .before .before .before .before .before .before)) (sizeUnion-meant (cc))) (c .walk-group3 .ensures)
+walk-type-returns-8 t c = rw (c .rebuilt6 .ensures) (walked-same _ _ (sizeUnion-leads _ (opened t (c .before .before .before .before .before .before .before .before)) (c .before .before .before .before .before .before .before .before .before .before .before .before .pre .1 .1 .0) (sizeUnion-meant (cc))) (sizeUnion-ends (opened t (c .before .before .before .before .before .before .before .before)) (sizeUnion-meant (cc))) (c .before .walk-group3 .ensures))
 
 pub +walk-array+walk-definition+walk-enum+walk-group+walk-members+walk-name+walk-type-spec :
     {M : Type 1} → statement M
@@ -495,6 +523,7 @@ pub +walk-array+walk-definition+walk-enum+walk-group+walk-members+walk-name+walk
     (walk-array-expr-at-requires t)
     (walk-array-enum-known-size t)
     (walk-array-walk-type-requires t)
+    (walk-array-rebuilt-requires t)
     (walk-array-enum-told t)
     (walk-array-enum-told-2 t)
     (walk-array-returns t)
@@ -522,6 +551,7 @@ pub +walk-array+walk-definition+walk-enum+walk-group+walk-members+walk-name+walk
     (walk-enum-expr-at-requires t)
     (walk-enum-enum-known-tag t)
     (walk-enum-walk-members-requires t)
+    (walk-enum-rebuilt-requires t)
     (walk-enum-enum-told t)
     (walk-enum-enum-told-2 t)
     (walk-enum-returns t)
@@ -532,6 +562,7 @@ pub +walk-array+walk-definition+walk-enum+walk-group+walk-members+walk-name+walk
     (walk-group-count-at-requires t)
     (walk-group-enum-known-head t)
     (walk-group-walk-members-requires t)
+    (walk-group-rebuilt-requires t)
     (walk-group-enum-told t)
     (walk-group-returns t)
     (walk-group-returns-2 t))
@@ -572,21 +603,27 @@ pub +walk-array+walk-definition+walk-enum+walk-group+walk-members+walk-name+walk
     (walk-type-enum-told t)
     (walk-type-enum-told-2 t)
     (walk-type-walk-name-requires t)
+    (walk-type-rebuilt-requires t)
     (walk-type-enum-told-3 t)
     (walk-type-sub-walk-group t)
     (walk-type-walk-group-requires t)
+    (walk-type-rebuilt-requires-2 t)
     (walk-type-enum-told-4 t)
     (walk-type-sub-walk-group-2 t)
     (walk-type-walk-group-requires-2 t)
+    (walk-type-rebuilt-requires-3 t)
     (walk-type-enum-told-5 t)
     (walk-type-sub-walk-enum t)
     (walk-type-walk-enum-requires t)
+    (walk-type-rebuilt-requires-4 t)
     (walk-type-enum-told-6 t)
     (walk-type-sub-walk-array t)
     (walk-type-walk-array-requires t)
+    (walk-type-rebuilt-requires-5 t)
     (walk-type-enum-told-7 t)
     (walk-type-sub-walk-group-3 t)
     (walk-type-walk-group-requires-3 t)
+    (walk-type-rebuilt-requires-6 t)
     (walk-type-returns-2 t)
     (walk-type-returns-3 t)
     (walk-type-returns-4 t)
