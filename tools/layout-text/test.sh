@@ -1,6 +1,6 @@
 #!/bin/sh
-# Builds layout-text and runs its tests. tests/random.rs needs the oracle
-# (tools/oracle/build.sh) for its random bundles; the program does not.
+# Builds layout-text and runs its tests. tests/random.rs takes its random bundles
+# from the oracle and runs where that is built (tools/oracle/build.sh).
 # Usage: tools/layout-text/test.sh [LIBRARY], as for build.sh
 set -eu
 here=$(cd "$(dirname "$0")" && pwd)
@@ -13,10 +13,15 @@ linked="-C link-arg=$library"
 for flag in ${LINK_FLAGS:-}; do
   linked="$linked -C link-arg=$flag"
 done
-for test in notation random; do
-  rustc --edition 2021 -C opt-level=1 --test -L "$target" -L tools/oracle/target \
-    --extern layout --extern layout_text --extern layout_oracle --crate-name "$test" \
-    $linked -o "$target/$test" "tools/layout-text/tests/$test.rs"
-  "$target/$test" --quiet --test-threads 1
-done
+run() {
+  name=$1
+  shift
+  rustc --edition 2021 -C opt-level=1 --test -L "$target" --extern layout --extern layout_text "$@" \
+    --crate-name "$name" $linked -o "$target/$name" "tools/layout-text/tests/$name.rs"
+  "$target/$name" --quiet --test-threads 1
+}
+run notation
+if [ -f tools/oracle/target/liblayout_oracle.rlib ]; then
+  run random -L tools/oracle/target --extern layout_oracle
+fi
 tools/layout-text/tests/program.sh
