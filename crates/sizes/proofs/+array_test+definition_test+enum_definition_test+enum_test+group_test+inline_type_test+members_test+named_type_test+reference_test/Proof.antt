@@ -43,6 +43,7 @@ use Rattle.sizes.proofs.array_counts.Reads as array-counts-reads
 use Rattle.sizes.proofs.expr_counts.Reads as expr-counts-reads
 use Rattle.sizes.proofs.is_constant.Reads as is-constant-reads
 use Rattle.sizes.proofs.is_constant_to.Reads as is-constant-to-reads
+use Rattle.sizes.proofs.tested_again.Reads as tested-again-reads
 use Rattle.sizes.proofs.is_holds.Reads as is-holds-reads
 use Rattle.sizes.proofs.mark_of.Reads as mark-of-reads
 use Rattle.sizes.proofs.one_size.Reads as one-size-reads
@@ -232,7 +233,7 @@ calls-members-test t = (member-head-at-reads.Asked, member-head-at-reads.Learnt,
 
 -- what `inline-type-test` is told of the functions that it calls
 abbrev calls-inline-type-test : ℕ → inline-type-test-lts.Claims
-calls-inline-type-test t = (form-of-reads.Asked, form-of-reads.Learnt, reference-test-below t, reference-test.Post, group-test-below t, group-test.Post, enum-test-below t, enum-test.Post, array-test-below t, array-test.Post)
+calls-inline-type-test t = (form-of-reads.Asked, form-of-reads.Learnt, reference-test-below t, reference-test.Post, tested-again-reads.Asked, tested-again-reads.Learnt, group-test-below t, group-test.Post, enum-test-below t, enum-test.Post, array-test-below t, array-test.Post)
 
 -- a need of `inline-type-test`
 abbrev Ask-inline-type-test : (inline-type-test-lts.Claims → In 3 inline-type-test-kinds.ps → Out 3 inline-type-test-kinds.ps inline-type-test-kinds.r → Type 0) → Type 0
@@ -524,6 +525,9 @@ inline-type-test-enum-told-2 t c = search needs
 inline-type-test-reference-test-requires : Ask-inline-type-test inline-type-test-lts.Need-reference-test-requires
 inline-type-test-reference-test-requires t c κs = (omega (arith, type-deep _ _ _ (c .before .before .before .before .before .before .before .before .before .before .pre .1 .1 .0), c .before .before .before .before .before .before .before .before .before .before .pre .0), (typeRef-there (type-opened _ _ _ _ (c .before .before .before .before .before .before .before .before .before .before .pre .1 .1 .0) (c .before .before .before .before .before .before .form-of .ensures)) (c .before .before .before .before .before .before .before .before .before .before .pre .1 .1 .0) (typeRef-meant (cc)), (c .before .before .before .before .before .before .before .before .before .before .pre .1 .0), (tt, ready-same (typeRef-leads _ (type-opened _ _ _ _ (c .before .before .before .before .before .before .before .before .before .before .pre .1 .1 .0) (c .before .before .before .before .before .before .form-of .ensures)) (c .before .before .before .before .before .before .before .before .before .before .pre .1 .1 .0) (typeRef-meant (cc))) (c .before .before .before .before .before .before .before .before .before .before .pre .1 .1 .1))))
 
+inline-type-test-tested-again-requires : Ask-inline-type-test inline-type-test-lts.Need-tested-again-requires
+inline-type-test-tested-again-requires t c κs = search needs
+
 inline-type-test-enum-told-3 : Ask-inline-type-test inline-type-test-lts.Need-enum-told-3
 inline-type-test-enum-told-3 t c = search needs
 
@@ -532,6 +536,9 @@ inline-type-test-sub-group-test t c = omega (arith, type-deep _ _ _ (c .before .
 
 inline-type-test-group-test-requires : Ask-inline-type-test inline-type-test-lts.Need-group-test-requires
 inline-type-test-group-test-requires t c κs = (omega (arith, type-deep _ _ _ (c .before .before .before .before .before .before .before .before .before .before .pre .1 .1 .0), c .before .before .before .before .before .before .before .before .before .before .pre .0), (omega (arith, type-there _ _ _ (c .before .before .before .before .before .before .before .before .before .before .pre .1 .1 .0)), (c .before .before .before .before .before .before .before .before .before .before .pre .1 .0), (struct-reads (type-opened _ _ _ _ (c .before .before .before .before .before .before .before .before .before .before .pre .1 .1 .0) (c .before .before .before .before .before .before .form-of .ensures)) (c .before .before .before .before .before .before .before .before .before .before .pre .1 .1 .0) (struct-meant (cc)), ready-same (struct-leads _ (type-opened _ _ _ _ (c .before .before .before .before .before .before .before .before .before .before .pre .1 .1 .0) (c .before .before .before .before .before .before .form-of .ensures)) (c .before .before .before .before .before .before .before .before .before .before .pre .1 .1 .0) (struct-meant (cc))) (c .before .before .before .before .before .before .before .before .before .before .pre .1 .1 .1))))
+
+inline-type-test-tested-again-requires-2 : Ask-inline-type-test inline-type-test-lts.Need-tested-again-requires-2
+inline-type-test-tested-again-requires-2 t c κs = search needs
 
 inline-type-test-enum-told-4 : Ask-inline-type-test inline-type-test-lts.Need-enum-told-4
 inline-type-test-enum-told-4 t c = search needs
@@ -542,6 +549,9 @@ inline-type-test-sub-group-test-2 t c = omega (arith, type-deep _ _ _ (c .before
 inline-type-test-group-test-requires-2 : Ask-inline-type-test inline-type-test-lts.Need-group-test-requires-2
 inline-type-test-group-test-requires-2 t c κs = (omega (arith, type-deep _ _ _ (c .before .before .before .before .before .before .before .before .before .before .pre .1 .1 .0), c .before .before .before .before .before .before .before .before .before .before .pre .0), (omega (arith, type-there _ _ _ (c .before .before .before .before .before .before .before .before .before .before .pre .1 .1 .0)), (c .before .before .before .before .before .before .before .before .before .before .pre .1 .0), (union-reads (type-opened _ _ _ _ (c .before .before .before .before .before .before .before .before .before .before .pre .1 .1 .0) (c .before .before .before .before .before .before .form-of .ensures)) (c .before .before .before .before .before .before .before .before .before .before .pre .1 .1 .0) (union-meant (cc)), ready-same (union-leads _ (type-opened _ _ _ _ (c .before .before .before .before .before .before .before .before .before .before .pre .1 .1 .0) (c .before .before .before .before .before .before .form-of .ensures)) (c .before .before .before .before .before .before .before .before .before .before .pre .1 .1 .0) (union-meant (cc))) (c .before .before .before .before .before .before .before .before .before .before .pre .1 .1 .1))))
 
+inline-type-test-tested-again-requires-3 : Ask-inline-type-test inline-type-test-lts.Need-tested-again-requires-3
+inline-type-test-tested-again-requires-3 t c κs = search needs
+
 inline-type-test-enum-told-5 : Ask-inline-type-test inline-type-test-lts.Need-enum-told-5
 inline-type-test-enum-told-5 t c = search needs
 
@@ -551,6 +561,9 @@ inline-type-test-sub-enum-test t c = omega (arith, type-deep _ _ _ (c .before .b
 inline-type-test-enum-test-requires : Ask-inline-type-test inline-type-test-lts.Need-enum-test-requires
 inline-type-test-enum-test-requires t c κs = (omega (arith, type-deep _ _ _ (c .before .before .before .before .before .before .before .before .before .before .pre .1 .1 .0), c .before .before .before .before .before .before .before .before .before .before .pre .0), (omega (arith, type-there _ _ _ (c .before .before .before .before .before .before .before .before .before .before .pre .1 .1 .0)), (c .before .before .before .before .before .before .before .before .before .before .pre .1 .0), (enum-reads (type-opened _ _ _ _ (c .before .before .before .before .before .before .before .before .before .before .pre .1 .1 .0) (c .before .before .before .before .before .before .form-of .ensures)) (c .before .before .before .before .before .before .before .before .before .before .pre .1 .1 .0) (enum-meant (cc)), ready-same (ap (typeLeads _) (enum-tree (type-opened _ _ _ _ (c .before .before .before .before .before .before .before .before .before .before .pre .1 .1 .0) (c .before .before .before .before .before .before .form-of .ensures)) (c .before .before .before .before .before .before .before .before .before .before .pre .1 .1 .0) (enum-meant (cc)))) (c .before .before .before .before .before .before .before .before .before .before .pre .1 .1 .1))))
 
+inline-type-test-tested-again-requires-4 : Ask-inline-type-test inline-type-test-lts.Need-tested-again-requires-4
+inline-type-test-tested-again-requires-4 t c κs = search needs
+
 inline-type-test-enum-told-6 : Ask-inline-type-test inline-type-test-lts.Need-enum-told-6
 inline-type-test-enum-told-6 t c = search needs
 
@@ -559,6 +572,9 @@ inline-type-test-sub-array-test t c = omega (arith, type-deep _ _ _ (c .before .
 
 inline-type-test-array-test-requires : Ask-inline-type-test inline-type-test-lts.Need-array-test-requires
 inline-type-test-array-test-requires t c κs = (omega (arith, type-deep _ _ _ (c .before .before .before .before .before .before .before .before .before .before .pre .1 .1 .0), c .before .before .before .before .before .before .before .before .before .before .pre .0), (omega (arith, type-there _ _ _ (c .before .before .before .before .before .before .before .before .before .before .pre .1 .1 .0)), (c .before .before .before .before .before .before .before .before .before .before .pre .1 .0), (array-reads (type-opened _ _ _ _ (c .before .before .before .before .before .before .before .before .before .before .pre .1 .1 .0) (c .before .before .before .before .before .before .form-of .ensures)) (c .before .before .before .before .before .before .before .before .before .before .pre .1 .1 .0) (array-meant (cc)), ready-same (ap (typeLeads _) (array-tree (type-opened _ _ _ _ (c .before .before .before .before .before .before .before .before .before .before .pre .1 .1 .0) (c .before .before .before .before .before .before .form-of .ensures)) (c .before .before .before .before .before .before .before .before .before .before .pre .1 .1 .0) (array-meant (cc)))) (c .before .before .before .before .before .before .before .before .before .before .pre .1 .1 .1))))
+
+inline-type-test-tested-again-requires-5 : Ask-inline-type-test inline-type-test-lts.Need-tested-again-requires-5
+inline-type-test-tested-again-requires-5 t c κs = search needs
 
 inline-type-test-enum-told-7 : Ask-inline-type-test inline-type-test-lts.Need-enum-told-7
 inline-type-test-enum-told-7 t c = search needs
@@ -576,19 +592,19 @@ inline-type-test-returns-3 : Ask-inline-type-test inline-type-test-lts.Need-retu
 inline-type-test-returns-3 t c = (sym (primitive-tested _ _ (type-opened _ _ _ _ (c .before .before .before .before .before .before .before .before .before .pre .1 .1 .0) (c .before .before .before .before .before .form-of .ensures)) (c .before .before .before .before .before .before .before .before .before .pre .1 .1 .0) (primitive-meant (cc))), c .before .before .before .before .before .before .before .before .before .pre .1 .1 .1 .keeps)
 
 inline-type-test-returns-4 : Ask-inline-type-test inline-type-test-lts.Need-returns-4
-inline-type-test-returns-4 t c = (c .reference-test .ensures .0 ∙ typeRef-tested _ _ (type-opened _ _ _ _ (c .before .before .before .before .before .before .before .before .before .before .before .pre .1 .1 .0) (c .before .before .before .before .before .before .before .form-of .ensures)) (c .before .before .before .before .before .before .before .before .before .before .before .pre .1 .1 .0) (typeRef-meant (cc)), c .reference-test .ensures .1)
+inline-type-test-returns-4 t c = (c .tested-again .ensures ∙ c .before .reference-test .ensures .0 ∙ typeRef-tested _ _ (type-opened _ _ _ _ (c .before .before .before .before .before .before .before .before .before .before .before .before .pre .1 .1 .0) (c .before .before .before .before .before .before .before .before .form-of .ensures)) (c .before .before .before .before .before .before .before .before .before .before .before .before .pre .1 .1 .0) (typeRef-meant (cc)), c .before .reference-test .ensures .1)
 
 inline-type-test-returns-5 : Ask-inline-type-test inline-type-test-lts.Need-returns-5
-inline-type-test-returns-5 t c = (c .group-test .ensures .0 ∙ struct-tested _ _ (type-opened _ _ _ _ (c .before .before .before .before .before .before .before .before .before .before .before .pre .1 .1 .0) (c .before .before .before .before .before .before .before .form-of .ensures)) (c .before .before .before .before .before .before .before .before .before .before .before .pre .1 .1 .0) (struct-meant (cc)), c .group-test .ensures .1)
+inline-type-test-returns-5 t c = (c .tested-again2 .ensures ∙ c .before .group-test .ensures .0 ∙ struct-tested _ _ (type-opened _ _ _ _ (c .before .before .before .before .before .before .before .before .before .before .before .before .pre .1 .1 .0) (c .before .before .before .before .before .before .before .before .form-of .ensures)) (c .before .before .before .before .before .before .before .before .before .before .before .before .pre .1 .1 .0) (struct-meant (cc)), c .before .group-test .ensures .1)
 
 inline-type-test-returns-6 : Ask-inline-type-test inline-type-test-lts.Need-returns-6
-inline-type-test-returns-6 t c = (c .group-test2 .ensures .0 ∙ union-tested _ _ (type-opened _ _ _ _ (c .before .before .before .before .before .before .before .before .before .before .before .pre .1 .1 .0) (c .before .before .before .before .before .before .before .form-of .ensures)) (c .before .before .before .before .before .before .before .before .before .before .before .pre .1 .1 .0) (union-meant (cc)), c .group-test2 .ensures .1)
+inline-type-test-returns-6 t c = (c .tested-again3 .ensures ∙ c .before .group-test2 .ensures .0 ∙ union-tested _ _ (type-opened _ _ _ _ (c .before .before .before .before .before .before .before .before .before .before .before .before .pre .1 .1 .0) (c .before .before .before .before .before .before .before .before .form-of .ensures)) (c .before .before .before .before .before .before .before .before .before .before .before .before .pre .1 .1 .0) (union-meant (cc)), c .before .group-test2 .ensures .1)
 
 inline-type-test-returns-7 : Ask-inline-type-test inline-type-test-lts.Need-returns-7
-inline-type-test-returns-7 t c = (c .enum-test .ensures .0 ∙ sym (enum-inline _ _ (type-opened _ _ _ _ (c .before .before .before .before .before .before .before .before .before .before .before .pre .1 .1 .0) (c .before .before .before .before .before .before .before .form-of .ensures)) (c .before .before .before .before .before .before .before .before .before .before .before .pre .1 .1 .0) (enum-meant (cc))), c .enum-test .ensures .1)
+inline-type-test-returns-7 t c = (c .tested-again4 .ensures ∙ c .before .enum-test .ensures .0 ∙ sym (enum-inline _ _ (type-opened _ _ _ _ (c .before .before .before .before .before .before .before .before .before .before .before .before .pre .1 .1 .0) (c .before .before .before .before .before .before .before .before .form-of .ensures)) (c .before .before .before .before .before .before .before .before .before .before .before .before .pre .1 .1 .0) (enum-meant (cc))), c .before .enum-test .ensures .1)
 
 inline-type-test-returns-8 : Ask-inline-type-test inline-type-test-lts.Need-returns-8
-inline-type-test-returns-8 t c = (c .array-test .ensures .0 ∙ sym (array-inline _ _ (type-opened _ _ _ _ (c .before .before .before .before .before .before .before .before .before .before .before .pre .1 .1 .0) (c .before .before .before .before .before .before .before .form-of .ensures)) (c .before .before .before .before .before .before .before .before .before .before .before .pre .1 .1 .0) (array-meant (cc))), c .array-test .ensures .1)
+inline-type-test-returns-8 t c = (c .tested-again5 .ensures ∙ c .before .array-test .ensures .0 ∙ sym (array-inline _ _ (type-opened _ _ _ _ (c .before .before .before .before .before .before .before .before .before .before .before .before .pre .1 .1 .0) (c .before .before .before .before .before .before .before .before .form-of .ensures)) (c .before .before .before .before .before .before .before .before .before .before .before .before .pre .1 .1 .0) (array-meant (cc))), c .before .array-test .ensures .1)
 
 inline-type-test-returns-9 : Ask-inline-type-test inline-type-test-lts.Need-returns-9
 inline-type-test-returns-9 t c = (sym (sizeUnion-size _ _ (type-opened _ _ _ _ (c .before .before .before .before .before .before .before .before .before .before .pre .1 .1 .0) (c .before .before .before .before .before .before .form-of .ensures)) (c .before .before .before .before .before .before .before .before .before .before .pre .1 .1 .0) (sizeUnion-meant (cc)) (c .if1 .left)), c .before .before .before .before .before .before .before .before .before .before .pre .1 .1 .1 .keeps)
@@ -807,18 +823,23 @@ pub +array-test+definition-test+enum-definition-test+enum-test+group-test+inline
     (inline-type-test-enum-told t)
     (inline-type-test-enum-told-2 t)
     (inline-type-test-reference-test-requires t)
+    (inline-type-test-tested-again-requires t)
     (inline-type-test-enum-told-3 t)
     (inline-type-test-sub-group-test t)
     (inline-type-test-group-test-requires t)
+    (inline-type-test-tested-again-requires-2 t)
     (inline-type-test-enum-told-4 t)
     (inline-type-test-sub-group-test-2 t)
     (inline-type-test-group-test-requires-2 t)
+    (inline-type-test-tested-again-requires-3 t)
     (inline-type-test-enum-told-5 t)
     (inline-type-test-sub-enum-test t)
     (inline-type-test-enum-test-requires t)
+    (inline-type-test-tested-again-requires-4 t)
     (inline-type-test-enum-told-6 t)
     (inline-type-test-sub-array-test t)
     (inline-type-test-array-test-requires t)
+    (inline-type-test-tested-again-requires-5 t)
     (inline-type-test-enum-told-7 t)
     (inline-type-test-sub-group-test-3 t)
     (inline-type-test-group-test-requires-3 t)
