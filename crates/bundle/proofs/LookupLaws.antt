@@ -14,6 +14,10 @@ use Rattle.meaning.specs.Lookup.{count, definitionOf, findType}
 use Rattle.meaning.specs.Lookup as lookup
 use Rattle.meaning.proofs.Lists.{getElem?-map}
 use Rattle.bundle.specs.Definitions.{bundleOf, typeAt, definitionAt, Placed, Table, edgeAt, EdgesFrom}
+use Rattle.meaning.specs.ReadType.{readTy}
+use Rattle.bundle.specs.declared.Step.the-variants.{Next}
+use Rattle.bundle.specs.View.{stepOf}
+use Rattle.bundle.proofs.Bounds.{type-in, step-in}
 use Rattle.bundle.proofs.TypeTrees.{type-there}
 
 -- the list from place i on
@@ -39,6 +43,13 @@ module _ {s : List ℕ} {n : ℕ} {places : List ℕ} (t : Table s n places) whe
   -- its type stands in the bytes, behind its name
   pub place-there : (i : ℕ) → i < n → getD places i 0 < length s
   place-there i h = type-there 24 (getD places i 0) s (placed-at i h .reads)
+
+  -- it ends 3 bytes before the next place
+  pub place-ends : (i : ℕ) → i < n → (3 ≤ getD places (i + 1) 0) × (Next (getD places (i + 1) 0 - 3) ≡ stepOf (readTy 24 s (getD places i 0)))
+  place-ends i h =
+      let e = t .placed .ends i (omega (arith, t .count)) in
+      let b = step-in s (readTy 24) (type-in s 24) (getD places i 0) (getD places (i + 1) 0 - 3) (omega (arith, place-there i h)) e in
+      (omega (arith, b .0, placed-at i h .behind), e)
 
   module _ {x i : ℕ} (g : Sought (bundleOf s) x i) where
     pub sought-end : n ≤ i → i ≡ definitionOf (bundleOf s) x

@@ -449,9 +449,9 @@ pub fn header_at(s: &[u8]) -> Counts
     }
 }
 
-// The end of the `count` definitions at `at`. `places` gets the position of each one's type.
+// The end of the `count` definitions at `at`. `places` gets the position of each one's type, and behind them where one more would be.
 fn definitions_at(s: &[u8], at: usize, count: usize, places: &mut [u16]) -> Step
-    requires { ⌜ (length (now s) ≤ 32768) × (count ≤ 256) × (256 ≤ length (now places)) ⌝ }
+    requires { ⌜ (length (now s) ≤ 32768) × (count ≤ 256) × (256 < length (now places)) × (at ≤ length (now s)) ⌝ }
     ensures { λ r. ⌜ DefinitionsAt (now (s .entry)) at count (now (places .exit)) r ⌝ }
 {
     let mut next = at;
@@ -467,6 +467,7 @@ fn definitions_at(s: &[u8], at: usize, count: usize, places: &mut [u16]) -> Step
             Step::Refused(k) => return Step::Refused(k),
         }
     }
+    places[count] = (next + 3) as u16;
     Step::Next(next)
 }
 
@@ -506,9 +507,9 @@ fn edges_end(s: &[u8], at: usize, count: usize) -> Step
     }
 }
 
-// Notes behind the 256 positions, for each name for which there is a place, the number of its first definition: the last one first.
+// Notes behind the 257 positions, for each name for which there is a place, the number of its first definition: the last one first.
 fn note_names(s: &[u8], count: usize, places: &mut [u16])
-    requires { ⌜ (count ≡ length (bundleOf (now s) .definitions)) × Places (now s) (bundleOf (now s) .definitions) (now places) × (256 ≤ length (now places)) ⌝ }
+    requires { ⌜ (count ≡ length (bundleOf (now s) .definitions)) × Places (now s) (bundleOf (now s) .definitions) (now places) × (256 < length (now places)) ⌝ }
     ensures { λ _. ⌜ Table (now (s .entry)) count (now (places .exit)) ⌝ }
 {
     let mut i = count;
@@ -516,7 +517,7 @@ fn note_names(s: &[u8], count: usize, places: &mut [u16])
         i -= 1;
         let at = places[i] as usize;
         let name = u16_at(s, at - 2);
-        let place = 256 + (name as usize);
+        let place = 257 + (name as usize);
         if place < places.len() {
             places[place] = i as u16;
         }
@@ -525,7 +526,7 @@ fn note_names(s: &[u8], count: usize, places: &mut [u16])
 
 // The layout of the bundle that the bytes are, whose header has these counts and ends at `at`, or the number of the first fault.
 fn rest_at(s: &[u8], at: usize, definitions: usize, edges: usize, places: &mut [u16]) -> Opening
-    requires { ⌜ (length (now s) ≤ 32768) × (256 ≤ length (now places)) × (Each definitions edges at ≡ countsOf (readHeader (now s) 0)) ⌝ }
+    requires { ⌜ (length (now s) ≤ 32768) × (256 < length (now places)) × (Each definitions edges at ≡ countsOf (readHeader (now s) 0)) ⌝ }
     ensures { λ r. ⌜ IsRead (now (s .entry)) (now (places .exit)) r ⌝ }
 {
     let step = definitions_at(s, at, definitions, places);
@@ -551,7 +552,7 @@ fn rest_at(s: &[u8], at: usize, definitions: usize, edges: usize, places: &mut [
 
 // The layout of the bundle that the bytes are, or the number of their first fault; circles are not looked for.
 fn bundle_at(s: &[u8], places: &mut [u16]) -> Opening
-    requires { ⌜ 256 ≤ length (now places) ⌝ }
+    requires { ⌜ 256 < length (now places) ⌝ }
     ensures { λ r. ⌜ IsRead (now (s .entry)) (now (places .exit)) r ⌝ }
 {
     if 32768 < s.len() {
@@ -586,7 +587,7 @@ pub fn definition_of(s: &[u8], places: &[u16], count: usize, name: u16) -> usize
     requires { ⌜ Table (now s) count (now places) ⌝ }
     ensures { λ r. ⌜ r ≡ definitionOf (bundleOf (now (s .entry))) name ⌝ }
 {
-    let place = 256 + (name as usize);
+    let place = 257 + (name as usize);
     if places.len() <= place {
         return scan_definitions(s, places, count, name);
     }
@@ -793,7 +794,7 @@ fn circle(s: &[u8], places: &[u16], count: usize) -> bool
 // The layout of the bundle that the bytes are, and in `places` the position of each definition's type and the first definition of
 // each name; or the number for which the bytes are refused. What `places` holds before is free.
 pub fn open(bundle: &[u8], places: &mut [u16]) -> Opening
-    requires { ⌜ 256 ≤ length (now places) ⌝ }
+    requires { ⌜ 256 < length (now places) ⌝ }
     ensures { λ r. ⌜ IsOpened (now (bundle .entry)) (now (places .exit)) r ⌝ }
 {
     let opening = bundle_at(bundle, places);
@@ -811,7 +812,7 @@ pub fn open(bundle: &[u8], places: &mut [u16]) -> Opening
 
 // Whether the bytes are accepted, with a lent list of places.
 fn accept_with(bundle: &[u8], places: &mut [u16]) -> Answer
-    requires { ⌜ 256 ≤ length (now places) ⌝ }
+    requires { ⌜ 256 < length (now places) ⌝ }
     ensures { λ r. ⌜ answerMeant r ≡ answerOf (acceptance (now (bundle .entry))) 0 ⌝ }
 {
     let opening = open(bundle, places);
@@ -827,9 +828,9 @@ pub fn accept(bundle: &[u8]) -> Answer
     ensures { λ r. ⌜ answerMeant r ≡ answerOf (acceptance (now (bundle .entry))) 0 ⌝ }
 {
     if bundle.len() <= 1024 {
-        let mut places = [0u16; 256];
+        let mut places = [0u16; 257];
         return accept_with(bundle, &mut places);
     }
-    let mut places = [0u16; 65792];
+    let mut places = [0u16; 65793];
     accept_with(bundle, &mut places)
 }

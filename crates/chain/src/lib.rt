@@ -563,7 +563,7 @@ fn chain_in(
     to: u16,
     list: &mut [u16],
 ) -> bundle::Answer
-    requires { ⌜ 256 ≤ length (now places) ⌝ }
+    requires { ⌜ 256 < length (now places) ⌝ }
     ensures { λ r. ⌜ Call (chaining from to (now (bytes .entry))) (now (list .entry)) (now (list .exit)) (answerMeant r) ⌝ }
 {
     let opening = bundle::open(bytes, places);
@@ -587,9 +587,9 @@ pub fn find_layout_dependency_chain(
     ensures { λ r. ⌜ Call (chaining from to (now (bytes .entry))) (now (list .entry)) (now (list .exit)) (answerMeant r) ⌝ }
 {
     if bytes.len() <= 1024 {
-        let mut places = [0u16; 256];
+        let mut places = [0u16; 257];
         return chain_in(bytes, &mut places, from, to, list);
     }
-    let mut places = [0u16; 65792];
+    let mut places = [0u16; 65793];
     chain_in(bytes, &mut places, from, to, list)
 }

@@ -1,7 +1,7 @@
 -- The fields of a struct: type 4.
-use Prim.Native.Nat.{ℕ, suc, _≤_}
+use Prim.Native.Nat.{ℕ}
 use native.Mathlib.Omega.{arith}
-use mathlib.Core.Bool.{Bool, true, false, cond, false≢true, _&&_, _||_, not}
+use mathlib.Core.Bool.{Bool, true, false, cond}
 use mathlib.Core.Option.{Option, none, some}
 use mathlib.Core.Path.{_≡_, refl, sym, ap, subst, _∙_}
 use mathlib.Core.List.{List, [], _∷_, map}
@@ -10,14 +10,12 @@ use denote.Enum.Declared.{tagOf}
 use lib.Dec.{eqb}
 use lib.ListN.{length, drop, getD}
 use Rattle.meaning.specs.Lists.{holds, findMap, orElse, onlyIf}
-use Rattle.meaning.specs.Lookup.{Target, findType, asTypeRef}
-use Rattle.meaning.specs.References.{collectFieldReferencesInTypeKind}
+use Rattle.meaning.specs.Lookup.{findType, asTypeRef}
 use Rattle.meaning.specs.Sizes.{namedSizeDepends}
-use Rattle.meaning.specs.Tree.{Ty, member, typeRef}
+use Rattle.meaning.specs.Tree.{Ty, member}
 use Rattle.meaning.specs.Violations.{Violation, violation, fieldForward, checkForwardReference, checkFieldLayoutDependency}
-use Rattle.bundle.specs.declared.Step.the-variants.{Next, Refused}
-use Rattle.bundle.specs.View.{stepOf, Reads}
-use Rattle.bundle.proofs.Trees.{refused-no}
+use Rattle.bundle.specs.declared.Step.the-variants.{Next}
+use Rattle.bundle.specs.View.{stepOf}
 use Rattle.bundle.specs.Definitions.{typeAt, bundleOf}
 use Rattle.meaning.specs.ReadType.{readTy}
 use Rattle.fields.specs.declared.Shape.{Shape}
@@ -85,10 +83,6 @@ module _ {s : List ℕ} {n j : ℕ} {t : Ty} {r : Found} (w : ForwardIn s n j t 
 
   pub forward-many : PartOf (pathAt s p) part.Other → ⊥
   forward-many o = o (bundleOf s .current) (subst (OneField s) q (w .one))
-
--- a definition that was read is not refused
-pub definition-reads : (at k : ℕ) (s : List ℕ) → Reads (readTy 24 s at) → Refused k ≡ stepOf (readTy 24 s at) → ⊥
-definition-reads at k s r e = refused-no (readTy 24 s at) k r (sym e)
 
 -- the test of the definition that a field leads to
 pub known-at : {s : List ℕ} {n : ℕ} {known : List ℕ} → Known s n known → {x i at : ℕ} → DefinitionIs s n x i at → eqb (getD known i 0) 2 ≡ namedSizeDepends (bundleOf s) (typeAt 24 s at)

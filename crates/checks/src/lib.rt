@@ -8,7 +8,7 @@ ghost use mathlib.Core.Path.{_≡_};
 ghost use mathlib.Core.Bool.{true, false, not};
 ghost use mathlib.Core.List.{[], _∷_};
 ghost use Prim.Native.Nat.{ℕ, _+_, _*_, _≤_, _<_};
-ghost use lib.ListN.{length, drop};
+ghost use lib.ListN.{length, getD, drop};
 ghost use Rattle.meaning.specs.Limits.{sizeLimit};
 ghost use Rattle.meaning.specs.Lists.{holds};
 ghost use Rattle.meaning.specs.Lookup.{findType, isStruct};
@@ -344,34 +344,22 @@ fn find_forward_reference(
     sizes::Found::Nothing
 }
 
-// The first such reference in the whole definition at `at`.
+// The first such reference in the whole of definition `i`.
 fn find_forward(
     s: &[u8],
     places: &[u16],
     layout: Layout,
     name: u16,
     j: usize,
-    at: usize,
+    i: usize,
     depends: bool,
 ) -> sizes::Found
-    requires { ⌜ LayoutOf (now s) layout (now places) × Reads (readTy 24 (now s) at) × (depends ≡ namedSizeDepends (bundleOf (now s)) (typeAt 24 (now s) at)) ⌝ }
-    ensures { λ r. ⌜ ForwardIn (now (s .entry)) name j (typeAt 24 (now (s .entry)) at) r ⌝ }
+    requires { ⌜ LayoutOf (now s) layout (now places) × (i < layout .definitions) × (depends ≡ namedSizeDepends (bundleOf (now s)) (typeAt 24 (now s) (getD (now places) i 0))) ⌝ }
+    ensures { λ r. ⌜ ForwardIn (now (s .entry)) name j (typeAt 24 (now (s .entry)) (getD (now (places .entry)) i 0)) r ⌝ }
 {
-    let step = bundle::type_at(s, at, 24);
-    match step {
-        bundle::Step::Next(end) => find_forward_reference(
-            s,
-            places,
-            layout,
-            name,
-            j,
-            at,
-            depends,
-            at,
-            end,
-        ),
-        bundle::Step::Refused(_) => sizes::Found::Nothing,
-    }
+    let place = fields::place_of(s, places, layout.definitions, i);
+    let end = fields::end_of(s, places, layout.definitions, i);
+    find_forward_reference(s, places, layout, name, j, place.at, depends, place.at, end)
 }
 
 // Type 4, for the field at index `j` of the struct: the first reference to a later field in the definition to which the field's
@@ -396,10 +384,10 @@ pub fn check_field_layout_dependency(
         return Check::Fine;
     };
     let found = fields::find_definition(s, places, count, n);
-    let Definition::At(i, at) = found else {
+    let Definition::At(i, _) = found else {
         return Check::Fine;
     };
-    let forward = find_forward(s, places, layout, name, j, at, known[i] == 2);
+    let forward = find_forward(s, places, layout, name, j, i, known[i] == 2);
     let sizes::Found::At(p) = forward else {
         return Check::Fine;
     };

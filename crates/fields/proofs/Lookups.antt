@@ -1,5 +1,5 @@
 -- The first definition of a name, the fields of a struct so found, and their order.
-use Prim.Native.Nat.{ℕ, zero, suc, _+_, _≤_, _<_}
+use Prim.Native.Nat.{ℕ, suc, _+_, _<_}
 use native.Mathlib.Decide.{decLt}
 use mathlib.Core.Logic.{by-cases}
 use native.Mathlib.Omega.{arith}
@@ -12,13 +12,13 @@ use denote.Enum.Declared.{tagOf}
 use lib.Dec.{ltb}
 use lib.ListN.{length, getD}
 use borrow.Author.Tests.{lt-ltb, le-ltb}
-use Rattle.meaning.specs.Tree.{Ty, Member}
+use Rattle.meaning.specs.Tree.{Member}
 use Rattle.meaning.specs.Lists.{firstIndex, lastIndex, holds, precedes}
-use Rattle.meaning.specs.Lookup.{listOf, asStruct, definitionOf, findType}
+use Rattle.meaning.specs.Lookup.{listOf, definitionOf, findType}
 use Rattle.meaning.specs.Sizes.{isEnumWithConstantSizeVariants}
 use Rattle.meaning.specs.Violations.{structOf, standsBefore, standsAfter}
 use Rattle.bundle.specs.Definitions.{typeAt, membersAt, bundleOf, Table}
-use Rattle.bundle.proofs.LookupLaws.{found-type, found-none}
+use Rattle.bundle.proofs.LookupLaws.{placed-at, found-type}
 use Rattle.sizes.proofs.Parts.{members-length}
 use Rattle.fields.specs.declared.Place.{Place}
 use Rattle.fields.specs.declared.Shape.{Shape}
@@ -126,3 +126,7 @@ module _ {s : List ℕ} {x at n : ℕ} (g : FieldsAre s x at n) where
 
     pub after-is : (named ≡ n → ⊥) → ltb j named ≡ holds (standsAfter j (f ∷ [])) (structOf (bundleOf s) x)
     after-is h = first-some j n named (firstIndex (sought false f) ms) p h ∙ rw (g .is)
+
+-- the position of the first definition's type is its place
+pub definition-placed : {s : List ℕ} {n : ℕ} {places : List ℕ} → Table s n places → {x i at : ℕ} → DefinitionIs s n x i at → DefinitionIs s n x i (getD places i 0)
+definition-placed t {x} {i} d = record { number = d .number; below = d .below; reads = placed-at t i (d .below) .reads; is = found-type t i x (d .number) (d .below) }

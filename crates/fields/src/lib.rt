@@ -8,13 +8,15 @@ ghost use mathlib.Core.Bool.{cond, _&&_};
 ghost use mathlib.Core.List.{[], _∷_};
 ghost use Prim.Native.Nat.{_+_, _≤_, _<_};
 ghost use lib.Dec.{eqb};
+ghost use lib.ListN.{getD};
 ghost use Rattle.meaning.specs.Lists.{firstIndex, lastIndex, holds};
 ghost use Rattle.meaning.specs.Lookup.{listOf, findType};
 ghost use Rattle.meaning.specs.ReadType.{readTy, readMember, readMembers};
 ghost use Rattle.meaning.specs.Reader.{little};
 ghost use Rattle.meaning.specs.Sizes.{isEnumWithConstantSizeVariants};
 ghost use Rattle.meaning.specs.Violations.{isEnumReferencingSameContainerStruct, structOf, standsBefore, standsAfter};
-ghost use Rattle.bundle.specs.View.{Reads};
+ghost use Rattle.bundle.specs.declared.Step.the-variants.{Next};
+ghost use Rattle.bundle.specs.View.{Reads, stepOf};
 ghost use Rattle.bundle.specs.Definitions.{typeAt, membersAt, bundleOf, Table};
 ghost use Rattle.fields.specs.Shapes.{ShapeOf, refShown, FieldAt, PlacedAt, Defines, FieldsOf};
 ghost use Rattle.fields.specs.Sought.{sought, isSought, holdsRef, firstShown, lastShown};
@@ -188,6 +190,15 @@ pub fn place_of(s: &[u8], places: &[u16], count: usize, i: usize) -> Place
         name: bundle::u16_at(s, at - 2),
         at: at,
     }
+}
+
+// Where the type of definition i ends: 3 bytes before the next place.
+pub fn end_of(s: &[u8], places: &[u16], count: usize, i: usize) -> usize
+    requires { ⌜ Table (now s) count (now places) × (i < count) ⌝ }
+    ensures { λ r. ⌜ Next r ≡ stepOf (readTy 24 (now (s .entry)) (getD (now (places .entry)) i 0)) ⌝ }
+{
+    let next = places[i + 1] as usize;
+    next - 3
 }
 
 // Whether the definition has the name `container` and is a struct with a field that is a TypeRef to the name.

@@ -110,7 +110,7 @@ fn scan(s: &[u8], out: &mut [u8], table: &mut [u16])
 
 // Writes the bundle with its names renumbered to the first places of `out`, with a lent list of places.
 fn renumber_in(bundle: &[u8], places: &mut [u16], out: &mut [u8]) -> Answer
-    requires { ⌜ 256 ≤ length (now places) ⌝ }
+    requires { ⌜ 256 < length (now places) ⌝ }
     ensures { λ r. ⌜ Call (renumbering (now (bundle .entry))) (now (out .entry)) (now (out .exit)) (answerMeant r) ⌝ }
 {
     let opening = bundle::open(bundle, places);
@@ -133,9 +133,9 @@ pub fn renumber(bundle: &[u8], out: &mut [u8]) -> Answer
     ensures { λ r. ⌜ Call (renumbering (now (bundle .entry))) (now (out .entry)) (now (out .exit)) (answerMeant r) ⌝ }
 {
     if bundle.len() <= 1024 {
-        let mut places = [0u16; 256];
+        let mut places = [0u16; 257];
         return renumber_in(bundle, &mut places, out);
     }
-    let mut places = [0u16; 65792];
+    let mut places = [0u16; 65793];
     renumber_in(bundle, &mut places, out)
 }

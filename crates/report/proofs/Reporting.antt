@@ -11,7 +11,7 @@ use lib.ListN.{length, getD, set, drop, length-set}
 use lib.Seq.{sets-eq, getD-set-same, getD-set-other}
 use borrow.Author.Tests.{le-leb, lt-leb}
 use Rattle.names.specs.Documents.{bytes}
-use Rattle.meaning.specs.Calls.{Answer, accepted, refusedWith, Call, result, answerOf, placesAfter, onBundle}
+use Rattle.meaning.specs.Calls.{Answer, accepted, Call, result, answerOf, placesAfter, onBundle}
 use Rattle.meaning.specs.Circle.{circles}
 use Rattle.meaning.specs.Encoding.{Bytes}
 use Rattle.meaning.specs.Limits.{definitionLimit}
@@ -22,15 +22,15 @@ use Rattle.meaning.proofs.Counts.{violations-few}
 use Rattle.meaning.proofs.ReadWithin.{bundle-within}
 use Rattle.bundle.specs.declared.Answer.the-variants.{Accepted, Refused}
 use Rattle.bundle.specs.declared.Layout.{Layout}
-use Rattle.bundle.specs.Definitions.{bundleOf, Table}
+use Rattle.bundle.specs.Definitions.{bundleOf}
 use Rattle.bundle.specs.Opened.{LayoutOf, answerMeant}
 use Rattle.bundle.proofs.AnswerLaws.{due-opened}
-use Rattle.sizes.specs.Tests.{Acyclic, Kept, markOf, definitionSizeDepends}
+use Rattle.sizes.specs.Tests.{Kept, markOf, definitionSizeDepends}
 use Rattle.checks.specs.Checks.{Known}
 use Rattle.violation.specs.Records.{Puts}
 use Rattle.violation.proofs.Putting.{puts-both}
 use Rattle.validate.specs.declared.Position.{Position}
-use Rattle.validate.specs.Validating.{recordBytes, Wrote, Room}
+use Rattle.validate.specs.Validating.{Wrote, Room}
 
 -- the first i definitions are noted
 pub record Noting (s : List ℕ) (count : ℕ) (kept known : List ℕ) (i : ℕ) : Type 0 where

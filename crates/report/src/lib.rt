@@ -260,7 +260,7 @@ fn report_opened(s: &[u8], places: &[u16], layout: Layout, out: &mut [u8]) -> An
 
 // Writes the report of a bundle into the first places of `out`, with a lent list of places. A refusal writes nothing.
 fn report_in(bundle: &[u8], places: &mut [u16], out: &mut [u8]) -> Answer
-    requires { ⌜ 256 ≤ length (now places) ⌝ }
+    requires { ⌜ 256 < length (now places) ⌝ }
     ensures { λ r. ⌜ Call (reporting (now (bundle .entry))) (now (out .entry)) (now (out .exit)) (answerMeant r) ⌝ }
 {
     let opening = bundle::open(bundle, places);
@@ -276,9 +276,9 @@ pub fn report(bundle: &[u8], out: &mut [u8]) -> Answer
     ensures { λ r. ⌜ Call (reporting (now (bundle .entry))) (now (out .entry)) (now (out .exit)) (answerMeant r) ⌝ }
 {
     if bundle.len() <= 1024 {
-        let mut places = [0u16; 256];
+        let mut places = [0u16; 257];
         return report_in(bundle, &mut places, out);
     }
-    let mut places = [0u16; 65792];
+    let mut places = [0u16; 65793];
     report_in(bundle, &mut places, out)
 }

@@ -10,7 +10,7 @@ slice-aggregate-chain-in : tie.Need-slice-aggregate-chain-in
 slice-aggregate-chain-in c = search needs
 
 chain-in-requires : tie.Need-chain-in-requires
-chain-in-requires c κs = omega (arith, length-replicate {A = ℕ} 256 0)
+chain-in-requires c κs = omega (arith, length-replicate {A = ℕ} 257 0)
 
 same-length : tie.Need-same-length
 same-length c = search needs
@@ -22,7 +22,7 @@ slice-aggregate-chain-in-2 : tie.Need-slice-aggregate-chain-in-2
 slice-aggregate-chain-in-2 c = search needs
 
 chain-in-requires-2 : tie.Need-chain-in-requires-2
-chain-in-requires-2 c κs = omega (arith, length-replicate {A = ℕ} 65792 0)
+chain-in-requires-2 c κs = omega (arith, length-replicate {A = ℕ} 65793 0)
 
 same-length-2 : tie.Need-same-length-2
 same-length-2 c = search needs

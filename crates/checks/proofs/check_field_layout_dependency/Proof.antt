@@ -3,7 +3,7 @@ use borrow.Author.Needs.{needs}
 use Rattle.checks.proofs.check_field_layout_dependency.Statement.{statement}
 use Rattle.checks.proofs.check_field_layout_dependency.Tie as tie
 use native.Mathlib.Omega.{arith}
-use Rattle.fields.proofs.Lookups.{definition-at, definition-no}
+use Rattle.fields.proofs.Lookups.{definition-at, definition-no, definition-placed}
 use Rattle.checks.proofs.ChainChecks.{fine, part-is, part-other}
 use Rattle.checks.proofs.FieldChecks.{known-at, field-other, field-nowhere, field-fine, forward-fit, forward-many, field-forward}
 
@@ -32,7 +32,7 @@ element-copy-out-find-forward : tie.Need-element-copy-out-find-forward
 element-copy-out-find-forward c = omega (arith, (definition-at _ _ _ (c .before .found .given .1) (c .before .before .before .find-definition .ensures)) .below, c .before .before .before .before .before .before .before .before .before .before .before .pre .0 .1 .few)
 
 find-forward-requires : tie.Need-find-forward-requires
-find-forward-requires c κs = (c .before .before .before .before .before .before .before .before .before .before .before .before .pre .0 .0, (definition-at _ _ _ (c .before .before .found .given .1) (c .before .before .before .before .find-definition .ensures)) .reads, known-at (c .before .before .before .before .before .before .before .before .before .before .before .before .pre .0 .1) (definition-at _ _ _ (c .before .before .found .given .1) (c .before .before .before .before .find-definition .ensures)))
+find-forward-requires c κs = (c .before .before .before .before .before .before .before .before .before .before .before .before .pre .0 .0, (definition-at _ _ _ (c .before .before .found .given .1) (c .before .before .before .before .find-definition .ensures)) .below, known-at (c .before .before .before .before .before .before .before .before .before .before .before .before .pre .0 .1) (definition-placed (c .before .before .before .before .before .before .before .before .before .before .before .before .pre .0 .0 .table) (definition-at _ _ _ (c .before .before .found .given .1) (c .before .before .before .before .find-definition .ensures))))
 
 enum-known-forward : tie.Need-enum-known-forward
 enum-known-forward c = search needs
@@ -41,7 +41,7 @@ enum-told-2 : tie.Need-enum-told-2
 enum-told-2 c = search needs
 
 returns-3 : tie.Need-returns-3
-returns-3 c = λ v. fine _ _ _ (field-fine _ _ _ _ _ (c .before .before .before .before .before .before .before .before .before .before .before .shape-at .result) (c .before .before .before .before .before .before .before .before .before .before .before .shape-at .ensures) v (c .before .before .before .before .before .before .before .before .before .shape .given .1) (definition-at _ _ _ (c .before .before .before .before .before .found .given .1) (c .before .before .before .before .before .before .before .find-definition .ensures)) (c .before .before .find-forward .ensures) (c .enum-told2 .given .1))
+returns-3 c = λ v. fine _ _ _ (field-fine _ _ _ _ _ (c .before .before .before .before .before .before .before .before .before .before .before .shape-at .result) (c .before .before .before .before .before .before .before .before .before .before .before .shape-at .ensures) v (c .before .before .before .before .before .before .before .before .before .shape .given .1) (definition-placed (c .before .before .before .before .before .before .before .before .before .before .before .before .before .before .before .pre .0 .0 .table) (definition-at _ _ _ (c .before .before .before .before .before .found .given .1) (c .before .before .before .before .before .before .before .find-definition .ensures))) (c .before .before .find-forward .ensures) (c .enum-told2 .given .1))
 
 field-part-requires : tie.Need-field-part-requires
 field-part-requires c κs = forward-fit (c .before .before .before .find-forward .ensures) (c .before .forward .given .1)
@@ -62,7 +62,7 @@ same-length : tie.Need-same-length
 same-length c = search needs
 
 returns-5 : tie.Need-returns-5
-returns-5 c = λ v. field-forward _ _ _ _ _ (c .before .before .before .before .before .before .before .before .before .before .before .before .before .before .before .before .before .before .before .before .shape-at .result) (c .before .before .before .before .before .before .before .before .before .before .before .before .before .before .before .before .before .before .before .before .shape-at .ensures) v (c .before .before .before .before .before .before .before .before .before .before .before .before .before .before .before .before .before .before .shape .given .1) (definition-at _ _ _ (c .before .before .before .before .before .before .before .before .before .before .before .before .before .before .found .given .1) (c .before .before .before .before .before .before .before .before .before .before .before .before .before .before .before .before .find-definition .ensures)) (c .before .before .before .before .before .before .before .before .before .before .before .find-forward .ensures) (c .before .before .before .before .before .before .before .before .before .forward .given .1) (part-is _ (c .before .before .before .before .before .part .given .1) (c .before .before .before .before .before .before .before .field-part .ensures)) (c .before .before .before .before .before .before .before .before .before .before .before .before .before .before .before .before .before .before .before .before .before .before .before .before .args .list .now) (c .before .before .set-chain .ensures)
+returns-5 c = λ v. field-forward _ _ _ _ _ (c .before .before .before .before .before .before .before .before .before .before .before .before .before .before .before .before .before .before .before .before .shape-at .result) (c .before .before .before .before .before .before .before .before .before .before .before .before .before .before .before .before .before .before .before .before .shape-at .ensures) v (c .before .before .before .before .before .before .before .before .before .before .before .before .before .before .before .before .before .before .shape .given .1) (definition-placed (c .before .before .before .before .before .before .before .before .before .before .before .before .before .before .before .before .before .before .before .before .before .before .before .before .pre .0 .0 .table) (definition-at _ _ _ (c .before .before .before .before .before .before .before .before .before .before .before .before .before .before .found .given .1) (c .before .before .before .before .before .before .before .before .before .before .before .before .before .before .before .before .find-definition .ensures))) (c .before .before .before .before .before .before .before .before .before .before .before .find-forward .ensures) (c .before .before .before .before .before .before .before .before .before .forward .given .1) (part-is _ (c .before .before .before .before .before .part .given .1) (c .before .before .before .before .before .before .before .field-part .ensures)) (c .before .before .before .before .before .before .before .before .before .before .before .before .before .before .before .before .before .before .before .before .before .before .before .before .args .list .now) (c .before .before .set-chain .ensures)
 
 pub check-field-layout-dependency-spec : {M : Type 1} → statement M
 check-field-layout-dependency-spec =

@@ -1,5 +1,4 @@
 -- `checks::field_part` meets its contract.
-use borrow.Author.Needs.{needs}
 use Rattle.checks.proofs.field_part.Statement.{statement}
 use Rattle.checks.proofs.field_part.Tie as tie
 use native.Mathlib.Omega.{arith}

@@ -10,7 +10,7 @@ slice-aggregate-renumber-in : tie.Need-slice-aggregate-renumber-in
 slice-aggregate-renumber-in c = search needs
 
 renumber-in-requires : tie.Need-renumber-in-requires
-renumber-in-requires c κs = omega (arith, length-replicate {A = ℕ} 256 0)
+renumber-in-requires c κs = omega (arith, length-replicate {A = ℕ} 257 0)
 
 same-length : tie.Need-same-length
 same-length c = search needs
@@ -22,7 +22,7 @@ slice-aggregate-renumber-in-2 : tie.Need-slice-aggregate-renumber-in-2
 slice-aggregate-renumber-in-2 c = search needs
 
 renumber-in-requires-2 : tie.Need-renumber-in-requires-2
-renumber-in-requires-2 c κs = omega (arith, length-replicate {A = ℕ} 65792 0)
+renumber-in-requires-2 c κs = omega (arith, length-replicate {A = ℕ} 65793 0)
 
 same-length-2 : tie.Need-same-length-2
 same-length-2 c = search needs

@@ -10,7 +10,7 @@ slice-aggregate-report-in : tie.Need-slice-aggregate-report-in
 slice-aggregate-report-in c = search needs
 
 report-in-requires : tie.Need-report-in-requires
-report-in-requires c κs = omega (arith, length-replicate {A = ℕ} 256 0)
+report-in-requires c κs = omega (arith, length-replicate {A = ℕ} 257 0)
 
 same-length : tie.Need-same-length
 same-length c = search needs
@@ -22,7 +22,7 @@ slice-aggregate-report-in-2 : tie.Need-slice-aggregate-report-in-2
 slice-aggregate-report-in-2 c = search needs
 
 report-in-requires-2 : tie.Need-report-in-requires-2
-report-in-requires-2 c κs = omega (arith, length-replicate {A = ℕ} 65792 0)
+report-in-requires-2 c κs = omega (arith, length-replicate {A = ℕ} 65793 0)
 
 same-length-2 : tie.Need-same-length-2
 same-length-2 c = search needs

@@ -59,7 +59,7 @@ use Rattle.bundle.proofs.LeadLaws.{typeRef-there, typeRef-leads, struct-leads, 
 use Rattle.bundle.proofs.LookupLaws.{placed-at, place-there}
 use Rattle.bundle.proofs.PartTrees.{group-no, enum-no, tag-no, array-no, size-no}
 use Rattle.bundle.proofs.TypeTrees.{type-deep, type-there, no-other, struct-reads, union-reads, sizeUnion-reads, enum-reads, array-reads, enum-tree, array-tree}
-use Rattle.bundle.proofs.TypeTrees.{group-reads, group-value, tag-reads, variants-read, size-reads, element-reads}
+use Rattle.bundle.proofs.TypeTrees.{group-reads, group-value, variants-read, element-reads}
 use Rattle.sizes.specs.Tests.{namedHolds}
 use Rattle.sizes.proofs.Heads.{array-where}
 use Rattle.bundle.proofs.PartTrees.{head-no, member-type-reads}

@@ -1,5 +1,4 @@
 -- `validate::name_of` meets its contract.
-use borrow.Author.Needs.{needs}
 use Rattle.validate.proofs.name_of.Statement.{statement}
 use Rattle.validate.proofs.name_of.Tie as tie
 use mathlib.Core.Path.{_∙_}

@@ -4,11 +4,9 @@ use Rattle.validate.proofs.validate_references.Tie as tie
 use borrow.Author.Needs.{needs}
 use Prim.Native.Nat.{_-_}
 use native.Mathlib.Omega.{arith}
-use mathlib.Core.Path.{_∙_}
 use Rattle.bundle.specs.Definitions.{bundleOf}
 use Rattle.sizes.proofs.ScanLaws.{nothing-left}
 use Rattle.checks.proofs.ForwardChecks.{reference-is, reference-no}
-use Rattle.violation.proofs.Putting.{puts-size}
 use Rattle.validate.specs.Validating.{checkReference}
 use Rattle.validate.proofs.Writing.{Lent, lent-start, lent-next, lent-workspace, Referencing, referencing-start, referencing-room, referencing-next, referencing-end}
 
