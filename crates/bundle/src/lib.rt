@@ -378,18 +378,17 @@ fn members_at(s: &[u8], at: usize, depth: usize, kind: u8, count: usize) -> Step
     Step::Next(next)
 }
 
-// The body of the header, definition or edge at `at`, whose kind must be `kind` and whose body must be whole.
-fn opening_at(s: &[u8], at: usize, kind: u8) -> Step
+// The body of the header, definition or edge at `at`, whose kind must be `kind`, of this form, and whose body must be whole.
+fn opening_at(s: &[u8], at: usize, kind: u8, form: Form) -> Step
+    requires { ⌜ formMeant form ≡ formOf kind ⌝ }
     ensures { λ r. ⌜ r ≡ stepOf (opening kind (now (s .entry)) at) ⌝ }
 {
     if s.len() <= at {
         return Step::Refused(2);
     }
-    let found = s[at];
-    if found != kind {
+    if s[at] != kind {
         return Step::Refused(3);
     }
-    let form = form_of(found);
     let Form::OfRecord(before, names, behind) = form else {
         return Step::Refused(3);
     };
@@ -404,18 +403,20 @@ fn opening_at(s: &[u8], at: usize, kind: u8) -> Step
 fn definition_at(s: &[u8], at: usize) -> Step
     ensures { λ r. ⌜ r ≡ stepOf (readDefinition (now (s .entry)) at) ⌝ }
 {
-    let opened = opening_at(s, at, 0x61);
+    let form = form_of(0x61);
+    let opened = opening_at(s, at, 0x61, form);
     match opened {
         Step::Next(body) => type_at(s, body + 2, 24),
         Step::Refused(k) => Step::Refused(k),
     }
 }
 
-// The end of the edge at `at`.
-fn edge_at(s: &[u8], at: usize) -> Step
+// The end of the edge at `at`, where `form` is an edge's.
+fn edge_at(s: &[u8], at: usize, form: Form) -> Step
+    requires { ⌜ formMeant form ≡ formOf 0x62 ⌝ }
     ensures { λ r. ⌜ r ≡ stepOf (readEdge (now (s .entry)) at) ⌝ }
 {
-    let opened = opening_at(s, at, 0x62);
+    let opened = opening_at(s, at, 0x62, form);
     match opened {
         Step::Next(body) => {
             if 3 < s[body + 4] {
@@ -432,7 +433,8 @@ fn edge_at(s: &[u8], at: usize) -> Step
 pub fn header_at(s: &[u8]) -> Counts
     ensures { λ r. ⌜ r ≡ countsOf (readHeader (now (s .entry)) 0) ⌝ }
 {
-    let opened = opening_at(s, 0, 0x60);
+    let form = form_of(0x60);
+    let opened = opening_at(s, 0, 0x60, form);
     match opened {
         Step::Next(body) => {
             let definitions = u16_at(s, body);
@@ -475,10 +477,11 @@ fn definitions_at(s: &[u8], at: usize, count: usize, places: &mut [u16]) -> Step
 fn edges_at(s: &[u8], at: usize, count: usize) -> Step
     ensures { λ r. ⌜ r ≡ stepOf (many _∷_ [] readEdge count (now (s .entry)) at) ⌝ }
 {
+    let form = form_of(0x62);
     let mut next = at;
     let mut left = count;
     while 0 < left {
-        let step = edge_at(s, next);
+        let step = edge_at(s, next, form);
         match step {
             Step::Next(after) => {
                 next = after;
