@@ -244,18 +244,17 @@ pub fn array_head_at(s: &[u8], at: usize) -> Step
     Step::Next(at + 10)
 }
 
-// The end of a member's own record, whose kind must be `kind`.
-pub fn member_head_at(s: &[u8], at: usize, kind: u8) -> Step
+// The end of a member's own record, whose kind must be `kind`, of this form.
+pub fn member_head_at(s: &[u8], at: usize, kind: u8, form: Form) -> Step
+    requires { ⌜ formMeant form ≡ formOf kind ⌝ }
     ensures { λ r. ⌜ r ≡ stepOf (memberHead kind (now (s .entry)) at) ⌝ }
 {
     if s.len() <= at {
         return Step::Refused(2);
     }
-    let found = s[at];
-    if found != kind {
+    if s[at] != kind {
         return Step::Refused(3);
     }
-    let form = form_of(found);
     let Form::OfMember(w) = form else {
         return Step::Refused(3);
     };
@@ -348,11 +347,12 @@ fn array_at(s: &[u8], at: usize, depth: usize) -> Step
     }
 }
 
-// The end of the member at `at`, whose kind must be `kind`.
-fn member_at(s: &[u8], at: usize, depth: usize, kind: u8) -> Step
+// The end of the member at `at`, whose kind must be `kind`, of this form.
+fn member_at(s: &[u8], at: usize, depth: usize, kind: u8, form: Form) -> Step
+    requires { ⌜ formMeant form ≡ formOf kind ⌝ }
     ensures { λ r. ⌜ r ≡ stepOf (readMember (readTy depth) kind (now (s .entry)) at) ⌝ }
 {
-    let head = member_head_at(s, at, kind);
+    let head = member_head_at(s, at, kind, form);
     match head {
         Step::Next(next) => rebuilt(type_at(&s[..], next, depth)),
         Step::Refused(k) => Step::Refused(k),
@@ -363,10 +363,11 @@ fn member_at(s: &[u8], at: usize, depth: usize, kind: u8) -> Step
 fn members_at(s: &[u8], at: usize, depth: usize, kind: u8, count: usize) -> Step
     ensures { λ r. ⌜ r ≡ stepOf (readMembers (readTy depth) kind count (now (s .entry)) at) ⌝ }
 {
+    let form = form_of(kind);
     let mut next = at;
     let mut left = count;
     while 0 < left {
-        let step = member_at(s, next, depth, kind);
+        let step = member_at(s, next, depth, kind, form);
         match step {
             Step::Next(after) => {
                 next = after;
@@ -760,10 +761,11 @@ fn walk_members(
     requires { ⌜ Table (now s) count (now places) × MembersToWalk (now s) (readMembers (readTy depth) kind n (now s) at) (now marks) ⌝ }
     ensures { λ r. ⌜ MembersWalked (now (s .entry)) (readMembers (readTy depth) kind n (now (s .entry)) at) (now (marks .entry)) (now (marks .exit)) r ⌝ }
 {
+    let form = form_of(kind);
     let mut next = at;
     let mut left = n;
     while 0 < left {
-        let head = member_head_at(s, next, kind);
+        let head = member_head_at(s, next, kind, form);
         let Step::Next(body) = head else {
             return Step::Refused(8);
         };

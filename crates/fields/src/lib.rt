@@ -75,7 +75,8 @@ pub fn field_at(s: &[u8], at: usize, depth: usize) -> Field
     requires { ⌜ Reads (readMember (readTy depth) 0x50 (now s) at) ⌝ }
     ensures { λ r. ⌜ FieldAt depth (now (s .entry)) at r ⌝ }
 {
-    let head = bundle::member_head_at(s, at, 0x50);
+    let form = bundle::form_of(0x50);
+    let head = bundle::member_head_at(s, at, 0x50, form);
     let Step::Next(body) = head else {
         return Field {
             name: 0,

@@ -327,10 +327,11 @@ fn all_of_size(s: &[u8], at: usize, depth: usize, count: usize, size: u8) -> boo
     requires { ⌜ Reads (readMembers (readTy depth) 0x52 count (now s) at) ⌝ }
     ensures { λ r. ⌜ r ≡ all (hasSize size) (listOf (membersAt depth 0x52 count (now (s .entry)) at)) ⌝ }
 {
+    let form = bundle::form_of(0x52);
     let mut next = at;
     let mut left = count;
     while 0 < left {
-        let head = bundle::member_head_at(s, next, 0x52);
+        let head = bundle::member_head_at(s, next, 0x52, form);
         let Step::Next(body) = head else {
             return false;
         };
@@ -355,7 +356,8 @@ fn one_size(s: &[u8], at: usize, depth: usize, count: usize) -> bool
     if count == 0 {
         return false;
     }
-    let head = bundle::member_head_at(s, at, 0x52);
+    let form = bundle::form_of(0x52);
+    let head = bundle::member_head_at(s, at, 0x52, form);
     let Step::Next(body) = head else {
         return false;
     };
@@ -761,10 +763,11 @@ fn members_test(
     requires { ⌜ Table (now s) count (now places) × MembersToTest (now s) jagged left (readMembers (readTy depth) kind n (now s) at) (now kept) ⌝ }
     ensures { λ r. ⌜ MembersTested (now (s .entry)) jagged (readMembers (readTy depth) kind n (now (s .entry)) at) (now (kept .exit)) r ⌝ }
 {
+    let form = bundle::form_of(kind);
     let mut next = at;
     let mut rest = n;
     while 0 < rest {
-        let head = bundle::member_head_at(s, next, kind);
+        let head = bundle::member_head_at(s, next, kind, form);
         let Step::Next(body) = head else {
             return Tested::Holds;
         };

@@ -158,7 +158,7 @@ Ask-walk-name N = (t : ℕ) → N (calls-walk-name t) (walk-name-at t) walk-name
 
 -- what `walk-members` is told of the functions that it calls
 abbrev calls-walk-members : ℕ → walk-members-lts.Claims
-calls-walk-members t = (member-head-at-reads.Asked, member-head-at-reads.Learnt, walk-type-below t, walk-type.Post)
+calls-walk-members t = (form-of-reads.Asked, form-of-reads.Learnt, member-head-at-reads.Asked, member-head-at-reads.Learnt, walk-type-below t, walk-type.Post)
 
 -- what `walk-group` is told of the functions that it calls
 abbrev calls-walk-group : ℕ → walk-group-lts.Claims
@@ -319,20 +319,23 @@ walk-group-returns-2 : Ask-walk-group walk-group-lts.Need-returns-2
 walk-group-returns-2 t c = absurd (group-no _ _ _ _ _ (c .before .before .before .before .before .pre .1 .2 .0) (sym (c .enum-told .given .1) ∙ c .before .before .count-at .ensures))
 
 abbrev walk-members-Inv-loop : walk-members-lts.InvT-loop
-walk-members-Inv-loop s places count marks₀ at depth kind n next₀ left₀ marks next left = Walking (bundleOf s) depth kind s n at marks₀ marks left next
+walk-members-Inv-loop s places count marks₀ at depth kind n form next₀ left₀ marks next left = Walking (bundleOf s) depth kind s n at marks₀ marks left next
 
 abbrev walk-members-μ-loop : walk-members-lts.MeasureT-loop
-walk-members-μ-loop s places count marks₀ at depth kind n next₀ left₀ marks next left = left
+walk-members-μ-loop s places count marks₀ at depth kind n form next₀ left₀ marks next left = left
 
 -- a need of `walk-members`
 abbrev Ask-walk-members : (walk-members-lts.Claims → In 3 walk-members-kinds.ps → Out 3 walk-members-kinds.ps walk-members-kinds.r → walk-members-lts.InvT-loop → walk-members-lts.MeasureT-loop → Type 0) → Type 0
 Ask-walk-members N = (t : ℕ) → N (calls-walk-members t) (walk-members-at t) walk-members.Post walk-members-Inv-loop walk-members-μ-loop
 
+walk-members-form-of-requires : Ask-walk-members walk-members-lts.Need-form-of-requires
+walk-members-form-of-requires t c κs = search needs
+
 walk-members-loop-holds : Ask-walk-members walk-members-lts.Need-loop-holds
-walk-members-loop-holds t c = walking-start _ _ _ _ _ _ _ (c .before .before .pre .1 .1 .0) (c .before .before .pre .1 .1 .1)
+walk-members-loop-holds t c = walking-start _ _ _ _ _ _ _ (c .before .before .before .pre .1 .1 .0) (c .before .before .before .pre .1 .1 .1)
 
 walk-members-member-head-at-requires : Ask-walk-members walk-members-lts.Need-member-head-at-requires
-walk-members-member-head-at-requires t c κs = search needs
+walk-members-member-head-at-requires t c κs = c .before .before .form-of .ensures
 
 walk-members-enum-known-head : Ask-walk-members walk-members-lts.Need-enum-known-head
 walk-members-enum-known-head t c = search needs
@@ -344,7 +347,7 @@ walk-members-returns : Ask-walk-members walk-members-lts.Need-returns
 walk-members-returns t c = absurd (head-no _ _ _ _ _ (c .before .before .before .loop-test .taken) (c .before .before .before .before .loop .inv .reads) _ (sym (c .enum-told .given .1) ∙ c .before .before .member-head-at .ensures))
 
 walk-members-walk-type-requires : Ask-walk-members walk-members-lts.Need-walk-type-requires
-walk-members-walk-type-requires t c κs = (omega (arith, c .before .before .before .before .before .before .before .before .before .pre .0, c .before .before .before .before .before .before .loop .inv .fewer), (c .before .before .before .before .before .before .before .before .before .pre .1 .0, (member-type-reads _ _ _ _ _ (c .before .before .before .before .before .loop-test .taken) (c .before .before .before .before .before .before .loop .inv .reads) _ (sym (c .before .before .head .given .1) ∙ c .before .before .before .before .member-head-at .ensures), walking-inside (c .before .before .before .before .before .before .loop .inv) (c .before .before .before .before .before .loop-test .taken) _ (sym (c .before .before .head .given .1) ∙ c .before .before .before .before .member-head-at .ensures))))
+walk-members-walk-type-requires t c κs = (omega (arith, c .before .before .before .before .before .before .before .before .before .before .pre .0, c .before .before .before .before .before .before .loop .inv .fewer), (c .before .before .before .before .before .before .before .before .before .before .pre .1 .0, (member-type-reads _ _ _ _ _ (c .before .before .before .before .before .loop-test .taken) (c .before .before .before .before .before .before .loop .inv .reads) _ (sym (c .before .before .head .given .1) ∙ c .before .before .before .before .member-head-at .ensures), walking-inside (c .before .before .before .before .before .before .loop .inv) (c .before .before .before .before .before .loop-test .taken) _ (sym (c .before .before .head .given .1) ∙ c .before .before .before .before .member-head-at .ensures))))
 
 walk-members-enum-known-step : Ask-walk-members walk-members-lts.Need-enum-known-step
 walk-members-enum-known-step t c = search needs
@@ -570,6 +573,7 @@ pub +walk-array+walk-definition+walk-enum+walk-group+walk-members+walk-name+walk
     walk-members.Post
     walk-members-Inv-loop
     walk-members-μ-loop
+    (walk-members-form-of-requires t)
     (walk-members-loop-holds t)
     (walk-members-member-head-at-requires t)
     (walk-members-enum-known-head t)

@@ -229,7 +229,7 @@ Ask-named-type-test N = (t : ℕ) → N (calls-named-type-test t) (named-type-te
 
 -- what `members-test` is told of the functions that it calls
 abbrev calls-members-test : ℕ → members-test-lts.Claims
-calls-members-test t = (member-head-at-reads.Asked, member-head-at-reads.Learnt, inline-type-test-below t, inline-type-test.Post)
+calls-members-test t = (form-of-reads.Asked, form-of-reads.Learnt, member-head-at-reads.Asked, member-head-at-reads.Learnt, inline-type-test-below t, inline-type-test.Post)
 
 -- what `inline-type-test` is told of the functions that it calls
 abbrev calls-inline-type-test : ℕ → inline-type-test-lts.Claims
@@ -610,21 +610,24 @@ inline-type-test-returns-9 : Ask-inline-type-test inline-type-test-lts.Need-retu
 inline-type-test-returns-9 t c = (sym (sizeUnion-size _ _ (type-opened _ _ _ _ (c .before .before .before .before .before .before .before .before .before .before .pre .1 .1 .0) (c .before .before .before .before .before .before .form-of .ensures)) (c .before .before .before .before .before .before .before .before .before .before .pre .1 .1 .0) (sizeUnion-meant (cc)) (c .if1 .left)), c .before .before .before .before .before .before .before .before .before .before .pre .1 .1 .1 .keeps)
 
 abbrev members-test-Inv-loop : members-test-lts.InvT-loop
-members-test-Inv-loop s places count kept₀ jagged at depth kind n left next₀ rest₀ kept next rest =
+members-test-Inv-loop s places count kept₀ jagged at depth kind n left form next₀ rest₀ kept next rest =
     Testing s jagged left depth kind n at kept next rest
 
 abbrev members-test-μ-loop : members-test-lts.MeasureT-loop
-members-test-μ-loop s places count kept₀ jagged at depth kind n left next₀ rest₀ kept next rest = rest
+members-test-μ-loop s places count kept₀ jagged at depth kind n left form next₀ rest₀ kept next rest = rest
 
 -- a need of `members-test`
 abbrev Ask-members-test : (members-test-lts.Claims → In 3 members-test-kinds.ps → Out 3 members-test-kinds.ps members-test-kinds.r → members-test-lts.InvT-loop → members-test-lts.MeasureT-loop → Type 0) → Type 0
 Ask-members-test N = (t : ℕ) → N (calls-members-test t) (members-test-at t) members-test.Post members-test-Inv-loop members-test-μ-loop
 
+members-test-form-of-requires : Ask-members-test members-test-lts.Need-form-of-requires
+members-test-form-of-requires t c κs = search needs
+
 members-test-loop-holds : Ask-members-test members-test-lts.Need-loop-holds
-members-test-loop-holds t c = testing-start (c .before .before .pre .1 .1 .0) (c .before .before .pre .1 .1 .1)
+members-test-loop-holds t c = testing-start (c .before .before .before .pre .1 .1 .0) (c .before .before .before .pre .1 .1 .1)
 
 members-test-member-head-at-requires : Ask-members-test members-test-lts.Need-member-head-at-requires
-members-test-member-head-at-requires t c κs = search needs
+members-test-member-head-at-requires t c κs = c .before .before .form-of .ensures
 
 members-test-enum-known-head : Ask-members-test members-test-lts.Need-enum-known-head
 members-test-enum-known-head t c = search needs
@@ -636,7 +639,7 @@ members-test-returns : Ask-members-test members-test-lts.Need-returns
 members-test-returns t c = absurd (head-no _ _ _ _ _ (c .before .before .before .loop-test .taken) (c .before .before .before .before .loop .inv .reads) _ (sym (c .enum-told .given .1) ∙ c .before .before .member-head-at .ensures))
 
 members-test-inline-type-test-requires : Ask-members-test members-test-lts.Need-inline-type-test-requires
-members-test-inline-type-test-requires t c κs = (omega (arith, c .before .before .before .before .before .before .before .before .before .pre .0), (c .before .before .before .before .before .before .before .before .before .pre .1 .0, (member-type-reads _ _ _ _ _ (c .before .before .before .before .before .loop-test .taken) (c .before .before .before .before .before .before .loop .inv .reads) _ (sym (c .before .before .head .given .1) ∙ c .before .before .before .before .member-head-at .ensures), testing-inside (c .before .before .before .before .before .before .loop .inv) (c .before .before .before .before .before .loop-test .taken) _ (sym (c .before .before .head .given .1) ∙ c .before .before .before .before .member-head-at .ensures))))
+members-test-inline-type-test-requires t c κs = (omega (arith, c .before .before .before .before .before .before .before .before .before .before .pre .0), (c .before .before .before .before .before .before .before .before .before .before .pre .1 .0, (member-type-reads _ _ _ _ _ (c .before .before .before .before .before .loop-test .taken) (c .before .before .before .before .before .before .loop .inv .reads) _ (sym (c .before .before .head .given .1) ∙ c .before .before .before .before .member-head-at .ensures), testing-inside (c .before .before .before .before .before .before .loop .inv) (c .before .before .before .before .before .loop-test .taken) _ (sym (c .before .before .head .given .1) ∙ c .before .before .before .before .member-head-at .ensures))))
 
 members-test-enum-known-tested : Ask-members-test members-test-lts.Need-enum-known-tested
 members-test-enum-known-tested t c = search needs
@@ -855,6 +858,7 @@ pub +array-test+definition-test+enum-definition-test+enum-test+group-test+inline
     members-test.Post
     members-test-Inv-loop
     members-test-μ-loop
+    (members-test-form-of-requires t)
     (members-test-loop-holds t)
     (members-test-member-head-at-requires t)
     (members-test-enum-known-head t)

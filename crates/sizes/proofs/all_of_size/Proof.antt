@@ -15,16 +15,19 @@ use Rattle.bundle.proofs.PartTrees.{head-no, member-type-reads}
 use Rattle.sizes.proofs.PrimitiveLaws.{variants-read, all-later, all-not, all-other, all-none}
 
 abbrev Inv-loop : tie.InvT-loop
-Inv-loop s at depth count size next₀ left₀ next left = Reads (readMembers (readTy depth) 0x52 left s next) × (all (hasSize size) (listOf (membersAt depth 0x52 left s next)) ≡ all (hasSize size) (listOf (membersAt depth 0x52 count s at)))
+Inv-loop s at depth count size form next₀ left₀ next left = Reads (readMembers (readTy depth) 0x52 left s next) × (all (hasSize size) (listOf (membersAt depth 0x52 left s next)) ≡ all (hasSize size) (listOf (membersAt depth 0x52 count s at)))
 
 abbrev μ-loop : tie.MeasureT-loop
-μ-loop s at depth count size next₀ left₀ next left = left
+μ-loop s at depth count size form next₀ left₀ next left = left
+
+form-of-requires : tie.Need-form-of-requires Inv-loop μ-loop
+form-of-requires c κs = search needs
 
 loop-holds : tie.Need-loop-holds Inv-loop μ-loop
-loop-holds c = (c .before .pre, refl)
+loop-holds c = (c .before .before .pre, refl)
 
 member-head-at-requires : tie.Need-member-head-at-requires Inv-loop μ-loop
-member-head-at-requires c κs = search needs
+member-head-at-requires c κs = c .before .before .form-of .ensures
 
 enum-known-head : tie.Need-enum-known-head Inv-loop μ-loop
 enum-known-head c = search needs
@@ -71,6 +74,7 @@ all-of-size-spec =
     (tie.spec
     Inv-loop
     μ-loop
+    form-of-requires
     loop-holds
     member-head-at-requires
     enum-known-head
