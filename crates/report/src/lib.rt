@@ -5,7 +5,7 @@ use bundle::Opening;
 use validate::Position;
 ghost use mathlib.Core.Path.{_≡_};
 ghost use mathlib.Core.Bool.{true, false};
-ghost use Prim.Native.Nat.{_-_, _≤_};
+ghost use Prim.Native.Nat.{_-_, _≤_, _<_};
 ghost use lib.ListN.{length, take, drop};
 ghost use Rattle.meaning.specs.Calls.{Call, result};
 ghost use Rattle.meaning.specs.Circle.{circles};
