@@ -1,24 +1,25 @@
 -- Walking over the fields of a struct, and over the definitions.
-use Prim.Native.Nat.{ℕ, zero, suc, _+_, _-_, _≤_, _<_}
+use Prim.Native.Nat.{ℕ, zero, suc, _+_, _-_, _≤_, _<_, suc-le-suc}
 use native.Mathlib.Omega.{arith}
 use native.Mathlib.Numerals.{add-one}
 use mathlib.Core.Bool.{Bool, true, false, cond, _||_, _&&_}
 use mathlib.Core.Option.{Option, none as nothing, some, Option·map}
 use mathlib.Core.Path.{_≡_, refl, sym, ap, ap₂, subst, _∙_}
-use mathlib.Core.List.{List, [], _∷_}
+use mathlib.Core.List.{List, [], _∷_, map}
 use lib.Dec.{eqb, ltb}
-use borrow.Author.Tests.{lt-ltb, eq-eqb, ne-eqb}
+use borrow.Author.Tests.{lt-ltb, eq-eqb, ne-eqb, eqb-false}
 use types.Run.{OneOf}
 use denote.Enum.Declared.{tagOf}
 use lib.ListN.{length, drop, getElem?, drop-of-length-le}
 use Rattle.meaning.specs.Tree.{primitive, Member, member, none, more, Definition, Bundle}
 use Rattle.meaning.specs.Lists.{any, firstIndex, lastIndex, orElse}
-use Rattle.meaning.specs.Lookup.{listOf}
+use Rattle.names.specs.Names.{place}
+use Rattle.meaning.specs.Lookup.{listOf, definitionOf}
 use Rattle.meaning.specs.ReadType.{readTy, readMember, readMembers}
 use Rattle.meaning.specs.Violations.{isEnumReferencingSameContainerStruct}
 use Rattle.bundle.specs.View.{Reads}
 use Rattle.bundle.specs.Definitions.{typeAt, membersAt, bundleOf, definitionAt, Table}
-use Rattle.bundle.proofs.LookupLaws.{placed-at}
+use Rattle.bundle.proofs.LookupLaws.{from-place, placed-at}
 use Rattle.bundle.proofs.Trees.{many-first, many-rest, many-value}
 use Rattle.sizes.proofs.Parts.{members-none}
 use Rattle.fields.specs.declared.Field.{Field}
@@ -149,12 +150,6 @@ pub struct-refers : (at : ℕ) (s : List ℕ) {n : ℕ} (name x e last : ℕ) �
     → ltb 0 last ≡ (eqb name x && holdsRef e (typeAt 24 s at))
 struct-refers at s {n} name x e last q g h = rw (eq-eqb name x q, g .tree) (ap (ltb 0) h ∙ sym (any-last (sought true e) (fields 23 s n (at + 12))))
 
--- the list from place i on
-pub from-place : {A : Type 0} (xs : List A) (i : ℕ) {x : A} → getElem? xs i ≡ some x → drop i xs ≡ x ∷ drop (suc i) xs
-from-place [] i e = let z : _≡_ {A = ℕ} 0 1 = cc in absurd (omega arith)
-from-place (y ∷ xs) zero e = ap (λ x. x ∷ xs) (let p : y ≡ _ = cc in p)
-from-place (y ∷ xs) (suc i) e = from-place xs i e
-
 -- the type of a definition was read
 pub placed-reads : {s : List ℕ} {n : ℕ} {places : List ℕ} → Table s n places → {i : ℕ} → i < n → {p : Place} → PlacedAt s places i p → Reads (readTy 24 s (p .at))
 placed-reads {s} t {i} h g = subst (λ k. Reads (readTy 24 s k)) (sym (g .at)) (placed-at t i h .reads)
@@ -168,8 +163,21 @@ pub record Containing (b : Bundle) (e x i : ℕ) : Type 0 where
   pub bound : i ≤ length (b .definitions)
   pub rest : any (contains e x) (drop i (b .definitions)) ≡ any (contains e x) (b .definitions)
 
-pub containing-start : (b : Bundle) (e x : ℕ) → Containing b e x 0
-containing-start b e x = record { bound = omega arith; rest = refl }
+-- none before the first of the name x is
+pub containing-start : (b : Bundle) (e x : ℕ) → Containing b e x (definitionOf b x)
+containing-start b e x = let h = skipped (b .definitions) in record { bound = h .0; rest = h .1 }
+  where
+    skipped : (ds : List Definition)
+        → (place (map (λ d. d .name) ds) x ≤ length ds) × (any (contains e x) (drop (place (map (λ d. d .name) ds) x) ds) ≡ any (contains e x) ds)
+    skipped [] = (omega arith, refl)
+    skipped (d ∷ ds) = go (eqb x (d .name)) refl (skipped ds)
+      where
+        go : (t : Bool) → eqb x (d .name) ≡ t
+            → (place (map (λ d. d .name) ds) x ≤ length ds) × (any (contains e x) (drop (place (map (λ d. d .name) ds) x) ds) ≡ any (contains e x) ds)
+            → (cond t 0 (suc (place (map (λ d. d .name) ds) x)) ≤ suc (length ds))
+            × (any (contains e x) (drop (cond t 0 (suc (place (map (λ d. d .name) ds) x))) (d ∷ ds)) ≡ any (contains e x) (d ∷ ds))
+        go true q h = (omega arith, refl)
+        go false q h = (suc-le-suc (h .0), rw (ne-eqb (d .name) x (λ p. eqb-false x (d .name) q (sym p))) (h .1))
 
 module _ {s : List ℕ} {n : ℕ} {places : List ℕ} (t : Table s n places) {e x i : ℕ} (c : Containing (bundleOf s) e x i) where
   pub containing-end : n ≤ i → false ≡ isEnumReferencingSameContainerStruct (bundleOf s) e x

@@ -9,6 +9,7 @@ ghost use mathlib.Core.List.{[], _∷_};
 ghost use Prim.Native.Nat.{_+_, _≤_, _<_};
 ghost use lib.Dec.{eqb};
 ghost use lib.ListN.{getD};
+ghost use Rattle.meaning.specs.Kinds.{formOf};
 ghost use Rattle.meaning.specs.Lists.{firstIndex, lastIndex, holds};
 ghost use Rattle.meaning.specs.Lookup.{listOf, findType};
 ghost use Rattle.meaning.specs.ReadType.{readTy, readMember, readMembers};
@@ -16,7 +17,7 @@ ghost use Rattle.meaning.specs.Reader.{little};
 ghost use Rattle.meaning.specs.Sizes.{isEnumWithConstantSizeVariants};
 ghost use Rattle.meaning.specs.Violations.{isEnumReferencingSameContainerStruct, structOf, standsBefore, standsAfter};
 ghost use Rattle.bundle.specs.declared.Step.the-variants.{Next};
-ghost use Rattle.bundle.specs.View.{Reads, stepOf};
+ghost use Rattle.bundle.specs.View.{formMeant, Reads, stepOf};
 ghost use Rattle.bundle.specs.Definitions.{typeAt, membersAt, bundleOf, Table};
 ghost use Rattle.fields.specs.Shapes.{ShapeOf, refShown, FieldAt, PlacedAt, Defines, FieldsOf};
 ghost use Rattle.fields.specs.Sought.{sought, isSought, holdsRef, firstShown, lastShown};
@@ -70,12 +71,12 @@ pub fn shape_at(s: &[u8], at: usize, depth: usize) -> Shape
     }
 }
 
-// The field that was read at `at`.
-pub fn field_at(s: &[u8], at: usize, depth: usize) -> Field
+// The field that was read at `at`, where `form` is a field's.
+pub fn field_at(s: &[u8], at: usize, depth: usize, form: Form) -> Field
+    requires { ⌜ formMeant form ≡ formOf 0x50 ⌝ }
     requires { ⌜ Reads (readMember (readTy depth) 0x50 (now s) at) ⌝ }
     ensures { λ r. ⌜ FieldAt depth (now (s .entry)) at r ⌝ }
 {
-    let form = bundle::form_of(0x50);
     let head = bundle::member_head_at(s, at, 0x50, form);
     let Step::Next(body) = head else {
         return Field {
@@ -136,10 +137,11 @@ pub fn first_field(
     requires { ⌜ Reads (readMembers (readTy depth) 0x50 count (now s) at) ⌝ }
     ensures { λ r. ⌜ r ≡ firstShown 0 count (firstIndex (sought «by_type» name) (listOf (membersAt depth 0x50 count (now (s .entry)) at))) ⌝ }
 {
+    let form = bundle::form_of(0x50);
     let mut next = at;
     let mut left = count;
     while 0 < left {
-        let field = field_at(s, next, depth);
+        let field = field_at(s, next, depth, form);
         if is_sought(s, field, depth, by_type, name) {
             return count - left;
         }
@@ -168,11 +170,12 @@ pub fn last_field(
     requires { ⌜ Reads (readMembers (readTy depth) 0x50 count (now s) at) ⌝ }
     ensures { λ r. ⌜ r ≡ lastShown 0 0 (lastIndex (sought «by_type» name) (listOf (membersAt depth 0x50 count (now (s .entry)) at))) ⌝ }
 {
+    let form = bundle::form_of(0x50);
     let mut next = at;
     let mut left = count;
     let mut last = 0;
     while 0 < left {
-        let field = field_at(s, next, depth);
+        let field = field_at(s, next, depth, form);
         let hit = is_sought(s, field, depth, by_type, name);
         last = pick(hit, count - left + 1, last);
         next = field.next;
@@ -217,7 +220,7 @@ fn contains(s: &[u8], place: Place, name: u16, container: u16) -> bool
     0 < last_field(s, place.at + 12, 23, n, true, name)
 }
 
-// Whether some definition of the name `container`, not only the first, is a struct with a field that is a TypeRef to the enum.
+// Whether some definition of the name `container`, from the first on, is a struct with a field that is a TypeRef to the enum.
 pub fn is_enum_referencing_same_container_struct(
     s: &[u8],
     places: &[u16],
@@ -228,7 +231,7 @@ pub fn is_enum_referencing_same_container_struct(
     requires { ⌜ Table (now s) count (now places) ⌝ }
     ensures { λ r. ⌜ r ≡ isEnumReferencingSameContainerStruct (bundleOf (now (s .entry))) name container ⌝ }
 {
-    let mut i = 0;
+    let mut i = bundle::definition_of(s, places, count, container);
     while i < count {
         let place = place_of(s, places, count, i);
         if contains(s, place, name, container) {

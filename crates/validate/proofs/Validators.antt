@@ -17,7 +17,7 @@ use Rattle.bundle.specs.declared.Step.the-variants.{Next, Refused}
 use Rattle.bundle.specs.View.{stepOf, Reads}
 use Rattle.bundle.specs.Definitions.{typeAt, membersAt, bundleOf, definitionAt, Table}
 use Rattle.bundle.specs.Expressions.{exprAt}
-use Rattle.bundle.proofs.LookupLaws.{placed-at}
+use Rattle.bundle.proofs.LookupLaws.{from-place, placed-at}
 use Rattle.bundle.proofs.Trees.{refused-no, ended-reads}
 use Rattle.sizes.specs.Scan.{pathAt, referencesFrom, pathsFrom, Fits}
 use Rattle.sizes.specs.Tests.{Kept}
@@ -28,7 +28,7 @@ use Rattle.fields.specs.declared.Place.{Place}
 use Rattle.fields.specs.declared.Shape.{Shape}
 use Rattle.fields.specs.declared.Shape.the-variants as shape
 use Rattle.fields.specs.Shapes.{StructAt, EnumAt, ArrayAt, isPlain, ShapeOf, FieldAt, PlacedAt}
-use Rattle.fields.proofs.Walking.{Passing, passing-next, passing-tree, from-place}
+use Rattle.fields.proofs.Walking.{Passing, passing-next, passing-tree}
 use Rattle.checks.specs.declared.Check.{Check}
 use Rattle.checks.specs.Checks.{violationOf, Checked}
 use Rattle.validate.specs.declared.Position.{Position}

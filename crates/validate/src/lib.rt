@@ -410,11 +410,12 @@ fn validate_struct_field_constraints(
 {
     let i = subject.number;
     let name = subject.name;
+    let form = bundle::form_of(0x50);
     let mut next = subject.at + 12;
     let mut left = count;
     let mut reached = position;
     while 0 < left {
-        let field = fields::field_at(s, next, 23);
+        let field = fields::field_at(s, next, 23, form);
         let check = checks::check_field_layout_dependency(
             s,
             places,

@@ -7,16 +7,19 @@ use mathlib.Core.Path.{sym, _∙_}
 use Rattle.fields.proofs.Walking.{field-reads, Firsting, firsting-start, firsting-hit, firsting-next, firsting-end}
 
 abbrev Inv-loop : tie.InvT-loop
-Inv-loop s at depth count by-type name next₀ left₀ next left = Firsting depth s count at by-type name left next
+Inv-loop s at depth count by-type name form next₀ left₀ next left = Firsting depth s count at by-type name left next
 
 abbrev μ-loop : tie.MeasureT-loop
-μ-loop s at depth count by-type name next₀ left₀ next left = left
+μ-loop s at depth count by-type name form next₀ left₀ next left = left
+
+form-of-requires : tie.Need-form-of-requires Inv-loop μ-loop
+form-of-requires c κs = search needs
 
 loop-holds : tie.Need-loop-holds Inv-loop μ-loop
-loop-holds c = firsting-start _ _ _ _ _ _ (c .before .pre)
+loop-holds c = firsting-start _ _ _ _ _ _ (c .before .before .pre)
 
 field-at-requires : tie.Need-field-at-requires Inv-loop μ-loop
-field-at-requires c κs = field-reads (c .before .loop .inv .pass) (c .loop-test .taken)
+field-at-requires c κs = (c .before .before .form-of .ensures, field-reads (c .before .loop .inv .pass) (c .loop-test .taken))
 
 is-sought-requires : tie.Need-is-sought-requires Inv-loop μ-loop
 is-sought-requires c κs = c .field-at .ensures .reads
@@ -45,6 +48,7 @@ first-field-spec =
     (tie.spec
     Inv-loop
     μ-loop
+    form-of-requires
     loop-holds
     field-at-requires
     is-sought-requires

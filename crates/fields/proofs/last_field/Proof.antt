@@ -6,16 +6,19 @@ use native.Mathlib.Omega.{arith}
 use Rattle.fields.proofs.Walking.{field-reads, Lasting, lasting-start, lasting-next, lasting-end}
 
 abbrev Inv-loop : tie.InvT-loop
-Inv-loop s at depth count by-type name next₀ left₀ last₀ next left last = Lasting depth s count at by-type name left next last
+Inv-loop s at depth count by-type name form next₀ left₀ last₀ next left last = Lasting depth s count at by-type name left next last
 
 abbrev μ-loop : tie.MeasureT-loop
-μ-loop s at depth count by-type name next₀ left₀ last₀ next left last = left
+μ-loop s at depth count by-type name form next₀ left₀ last₀ next left last = left
+
+form-of-requires : tie.Need-form-of-requires Inv-loop μ-loop
+form-of-requires c κs = search needs
 
 loop-holds : tie.Need-loop-holds Inv-loop μ-loop
-loop-holds c = lasting-start _ _ _ _ _ _ (c .before .pre)
+loop-holds c = lasting-start _ _ _ _ _ _ (c .before .before .pre)
 
 field-at-requires : tie.Need-field-at-requires Inv-loop μ-loop
-field-at-requires c κs = field-reads (c .before .loop .inv .pass) (c .loop-test .taken)
+field-at-requires c κs = (c .before .before .form-of .ensures, field-reads (c .before .loop .inv .pass) (c .loop-test .taken))
 
 is-sought-requires : tie.Need-is-sought-requires Inv-loop μ-loop
 is-sought-requires c κs = c .field-at .ensures .reads
@@ -47,6 +50,7 @@ last-field-spec =
     (tie.spec
     Inv-loop
     μ-loop
+    form-of-requires
     loop-holds
     field-at-requires
     is-sought-requires
