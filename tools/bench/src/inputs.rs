@@ -298,8 +298,16 @@ pub fn long_chains(bytes: usize) -> Bundle {
     sums(bytes, last)
 }
 
-/// Arrays under a name that no edge leads to: every search goes through the
-/// whole line and fails.
+/// Arrays under a name that has an edge, but that no edge leads to: every search
+/// goes through the whole line and fails.
 pub fn failing_searches(bytes: usize) -> Bundle {
-    sums(bytes, 50_000)
+    let name = 50_000;
+    let mut bundle = sums(bytes, name);
+    let apart = Edge {
+        from: name,
+        to: name + 1,
+        kind: 0,
+    };
+    *bundle.edges.last_mut().expect("a line has edges") = apart;
+    bundle
 }
