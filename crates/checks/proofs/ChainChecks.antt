@@ -1,23 +1,23 @@
 -- What the search for a chain says of the checks, and the fields that a reference names.
 use Prim.Native.Nat.{ℕ, zero, suc, _+_, _-_, _*_, _≤_, _<_}
 use native.Mathlib.Omega.{arith}
-use mathlib.Core.Bool.{Bool, true, false, not, cond, _&&_}
-use mathlib.Core.Option.{Option, none, some, Option·map}
+use mathlib.Core.Bool.{true, false, cond}
+use mathlib.Core.Option.{Option, none, some}
 use mathlib.Core.Path.{_≡_, refl, sym, ap, ap₂, subst, _∙_}
 use mathlib.Core.List.{List, [], _∷_, _++_}
-use lib.Dec.{leb, eqb}
+use lib.Dec.{eqb}
 use lib.ListN.{length, getD, drop, take, set, length-append}
 use lib.Seq.{take-at}
 use borrow.Author.Tests.{le-leb}
 use Rattle.meaning.specs.Limits.{edgeLimit}
 use Rattle.meaning.specs.Chain.{chainOf}
-use Rattle.meaning.specs.Lists.{holds, lastIndex, precedes, onlyIf}
-use Rattle.meaning.specs.Lookup.{Target, parseFieldReference, namesField, isField, memberName, findType}
+use Rattle.meaning.specs.Lists.{holds}
+use Rattle.meaning.specs.Lookup.{Target, parseFieldReference, findType}
 use Rattle.meaning.specs.Lookup as lookup
 use Rattle.fields.specs.Shapes.{DefinitionIs}
 use Rattle.meaning.specs.Reader.{little, namesFrom}
-use Rattle.meaning.specs.Sizes.{namedSizeDepends, isEnumWithConstantSizeVariants}
-use Rattle.meaning.specs.Violations.{violation, enumForward, enumCycle, arrayCycle, graph, findLayoutDependencyChain, structOf, standsBefore, isEnumReferencingSameContainerStruct}
+use Rattle.meaning.specs.Sizes.{namedSizeDepends}
+use Rattle.meaning.specs.Violations.{graph, findLayoutDependencyChain, isEnumReferencingSameContainerStruct}
 use Rattle.meaning.specs.Violations.{checkEnumForwardReferenceInSameStruct, checkEnumTagLayoutCycle, checkArraySizeLayoutCycle}
 use Rattle.meaning.proofs.Chains.{chain-length}
 use Rattle.bundle.specs.declared.Layout.{Layout}
@@ -35,7 +35,7 @@ use Rattle.sizes.proofs.PathLaws.{path-names}
 use Rattle.checks.specs.declared.Check.the-variants as check
 use Rattle.checks.specs.declared.Part.{Part}
 use Rattle.checks.specs.declared.Part.the-variants as part
-use Rattle.checks.specs.Checks.{targetAt, typePart, PartOf, Checked, Holds, GraphOf, Known}
+use Rattle.checks.specs.Checks.{targetAt, typePart, PartOf, Checked, GraphOf, Known}
 
 -- three stores into the first places
 pub set-three : (l : List ℕ) (a b c : ℕ) → 3 ≤ length l → set (set (set l 0 a) 1 b) 2 c ≡ a ∷ b ∷ c ∷ drop 3 l

@@ -1,20 +1,19 @@
 -- References to fields of one struct: type 1, and the search for type 4.
-use Prim.Native.Nat.{ℕ, zero, suc, _+_, _-_, _*_, _≤_, _<_}
+use Prim.Native.Nat.{ℕ, _+_, _*_}
 use native.Mathlib.Omega.{arith}
 use mathlib.Core.Bool.{Bool, true, false, not, cond, _&&_, _||_, false≢true}
-use mathlib.Core.Option.{Option, none, some, Option·map}
-use mathlib.Core.Path.{_≡_, refl, sym, ap, ap₂, subst, _∙_}
-use mathlib.Core.List.{List, [], _∷_, _++_}
+use mathlib.Core.Option.{Option, none, some}
+use mathlib.Core.Path.{_≡_, refl, sym, ap, subst, _∙_}
+use mathlib.Core.List.{List, [], _∷_}
 use lib.Dec.{eqb, ltb}
-use lib.ListN.{length, drop, take}
+use lib.ListN.{length, drop}
 use borrow.Author.Tests.{eq-eqb, ne-eqb}
-use Rattle.meaning.specs.Lists.{holds, firstIndex, lastIndex, precedes, onlyIf}
-use Rattle.meaning.specs.Lookup.{Target, namesField, isField, memberName, findType}
-use Rattle.meaning.specs.Tree.{Ty, Member, Bundle}
+use Rattle.meaning.specs.Lists.{holds, firstIndex, lastIndex, precedes}
+use Rattle.meaning.specs.Lookup.{namesField, isField, memberName, findType}
+use Rattle.meaning.specs.Tree.{Ty, Member}
 use Rattle.meaning.specs.Sizes.{namedSizeDepends, isEnumWithConstantSizeVariants}
 use Rattle.meaning.specs.Violations.{structOf, standsBefore, standsAfter, isLaterField, typeNeedsFieldRefForLayout, checkEnumForwardReferenceInSameStruct}
-use Rattle.bundle.specs.Definitions.{typeAt, bundleOf}
-use Rattle.sizes.specs.Paths.{Fit}
+use Rattle.bundle.specs.Definitions.{bundleOf}
 use Rattle.sizes.specs.Scan.{pathAt, referencesFrom, foundOf, Fits}
 use Rattle.sizes.proofs.PathLaws.{Split, split-fit, split-fits}
 use Rattle.sizes.specs.declared.Found.the-variants.{At, Nothing}

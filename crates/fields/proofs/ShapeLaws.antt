@@ -1,5 +1,5 @@
 -- A type or field that was read, as its shape shows it.
-use Prim.Native.Nat.{ℕ, _+_, _-_, _≤_, _<_}
+use Prim.Native.Nat.{ℕ, _+_, _-_, _≤_}
 use native.Mathlib.Omega.{arith}
 use mathlib.Core.Bool.{Bool, true, false, false≢true}
 use mathlib.Core.Option.{none}
@@ -10,7 +10,7 @@ use mathlib.Core.List.{List, [], _∷_}
 use lib.Dec.{eqb}
 use lib.ListN.{length, getD}
 use borrow.Author.Tests.{eq-eqb}
-use Rattle.meaning.specs.Kinds.{Form, formOf, OfType, OfMember, Primitive, TypeRef, Struct, Union, Enum, Array, SizeUnion}
+use Rattle.meaning.specs.Kinds.{Form, OfType, Primitive, TypeRef, Struct, Union, Enum, Array, SizeUnion}
 use Rattle.meaning.specs.Tree.{Ty, primitive, typeRef, struct, union, enum, array, sizeUnion, member}
 use Rattle.meaning.specs.Lists.{holds}
 use Rattle.meaning.specs.Lookup.{asTypeRef, asStruct}
@@ -27,7 +27,7 @@ use Rattle.bundle.proofs.ExprLaws.{Opened}
 use Rattle.bundle.proofs.Trees.{ended-reads, refused-no, first-read}
 use Rattle.bundle.proofs.TypeLaws.{member-type}
 use Rattle.bundle.proofs.TypeTrees.{primitive-tree, typeRef-reads, typeRef-tree, union-tree, sizeUnion-tree, member-reads, member-value}
-use Rattle.sizes.proofs.Heads.{MemberAt, member-where}
+use Rattle.sizes.proofs.Heads.{member-where}
 use Rattle.sizes.proofs.Parts.{struct-parts, enum-at, array-at}
 use Rattle.fields.specs.declared.Shape.{Shape}
 use Rattle.fields.specs.declared.Shape.the-variants as shape

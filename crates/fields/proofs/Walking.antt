@@ -1,5 +1,5 @@
 -- Walking over the fields of a struct, and over the definitions.
-use Prim.Native.Nat.{ℕ, zero, suc, _+_, _-_, _≤_, _<_, suc-le-suc}
+use Prim.Native.Nat.{ℕ, suc, _+_, _-_, _≤_, _<_, suc-le-suc}
 use native.Mathlib.Omega.{arith}
 use native.Mathlib.Numerals.{add-one}
 use mathlib.Core.Bool.{Bool, true, false, cond, _||_, _&&_}
@@ -10,7 +10,7 @@ use lib.Dec.{eqb, ltb}
 use borrow.Author.Tests.{lt-ltb, eq-eqb, ne-eqb, eqb-false}
 use types.Run.{OneOf}
 use denote.Enum.Declared.{tagOf}
-use lib.ListN.{length, drop, getElem?, drop-of-length-le}
+use lib.ListN.{length, drop, drop-of-length-le}
 use Rattle.meaning.specs.Tree.{primitive, Member, member, none, more, Definition, Bundle}
 use Rattle.meaning.specs.Lists.{any, firstIndex, lastIndex, orElse}
 use Rattle.names.specs.Names.{place}

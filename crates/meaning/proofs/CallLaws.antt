@@ -2,13 +2,13 @@
 use Prim.Native.Nat.{ℕ, _≤_, _<_}
 use native.Mathlib.Omega.{arith}
 use mathlib.Core.Bool.{Bool, true, false, cond}
-use mathlib.Core.Path.{_≡_, refl, sym, ap, _∙_}
+use mathlib.Core.Path.{_≡_, refl, ap, _∙_}
 use mathlib.Core.List.{List, _++_}
 use lib.Dec.{leb}
 use lib.ListN.{length, take, drop}
 use lib.Seq.{take-at, drop-at}
 use borrow.Author.Tests.{le-leb, lt-leb}
-use Rattle.meaning.specs.Calls.{Answer, accepted, refusedWith, Outcome, result, refusal, answerOf, placesAfter, Call}
+use Rattle.meaning.specs.Calls.{accepted, refusedWith, Outcome, result, refusal, answerOf, placesAfter, Call}
 
 -- a call is accepted with n: there is a result of that length, it stands in the first n places, and the others are kept
 pub record Fills (o : Outcome) (n : ℕ) (before after : List ℕ) : Type 0 where

@@ -5,13 +5,13 @@
 use Prim.Native.Nat.{ℕ, zero, suc, _≤_}
 use native.Mathlib.Nat.{not-suc-le-zero, le-of-suc-le-suc}
 use native.Mathlib.Omega.{arith}
-use mathlib.Core.Path.{_≡_, refl}
+use mathlib.Core.Path.{_≡_}
 use mathlib.Core.List.{List}
 use Rattle.meaning.specs.Kinds.{ExprForm, Literal, FieldRef, Sizeof, Alignof, Binary, Unary}
 use Rattle.meaning.specs.Kinds.{TypeForm, Primitive, TypeRef, Struct, Union, Enum, Array, SizeUnion}
 use Rattle.meaning.specs.Kinds.{Form, OfExpr, OfType, OfMember, OfRecord, Unknown, formOf}
 use Rattle.meaning.specs.Tree.{Expr, Ty}
-use Rattle.meaning.specs.Reader.{Read, ok, Reader, after, many}
+use Rattle.meaning.specs.Reader.{ok, Reader, after, many}
 use Rattle.meaning.specs.ReadExpr.{kind, readExpr, exprAfter, exprBody}
 use Rattle.meaning.specs.ReadType.{memberHead, readMember, readMembers, head, arrayHead, readGroup, readEnum, readArray, typeBody, typeAfter, readTy}
 use Rattle.meaning.proofs.Readings.{went}

@@ -7,7 +7,7 @@ use mathlib.Core.Bool.{_&&_}
 use mathlib.Core.Option.{Option, none, some, Option·map}
 use Rattle.meaning.specs.Tree.{Expr, literal, fieldRef, sizeof, alignof, binary, unary, Ty, primitive, typeRef, struct, union, enum, array, sizeUnion, Member, member, Members, more}
 use Rattle.meaning.specs.Lists.{all, holds}
-use Rattle.meaning.specs.Lookup.{listOf, memberName, memberType, asPrimitive, asTypeRef, asStruct}
+use Rattle.meaning.specs.Lookup.{listOf, asPrimitive, asTypeRef, asStruct}
 use Rattle.meaning.specs.References.{collectFieldReferencesRecursive, isConstant, collectFieldReferencesInTypeKind, referencesInMember, referencesInMembers}
 use Rattle.meaning.specs.Circle.{typeNames, typeNamesOfMember, typeNamesOfMembers}
 use Rattle.meaning.specs.Sizes.{getPrimitiveSize, hasSize, oneSize, constantSizeVariants, isEnumWithConstantSizeVariants}
@@ -71,12 +71,6 @@ module _ (f : ℕ → ℕ) where
   pub listOf-map : (ms : Members) → listOf (mapMembers f ms) ≡ map (mapMember f) (listOf ms)
   listOf-map Members.none = refl
   listOf-map (more m ms) = ap (mapMember f m ∷_) (listOf-map ms)
-
-  pub memberName-map : (m : Member) → memberName (mapMember f m) ≡ f (memberName m)
-  memberName-map (member n v t) = refl
-
-  pub memberType-map : (m : Member) → memberType (mapMember f m) ≡ mapTy f (memberType m)
-  memberType-map (member n v t) = refl
 
   asPrimitive-map : (t : Ty) → asPrimitive (mapTy f t) ≡ asPrimitive t
   asPrimitive-map (primitive k) = refl

@@ -14,7 +14,7 @@ use Rattle.meaning.specs.Kinds.{formOf, kinds, lookup}
 use Rattle.meaning.specs.Tree.{Expr, Ty, primitive, typeRef, struct, union, enum, array, sizeUnion, Attributes, Member, member, Members, none, more}
 use Rattle.meaning.specs.Reader.{ok, after, many}
 use Rattle.meaning.specs.ReadExpr.{node, only, readExpr}
-use Rattle.meaning.specs.ReadType.{Head, head, memberBody, memberHead, readMember, readMembers, Group, readGroup, readEnum, arrayHead, readArray, typeBody, typeAfter, readTy}
+use Rattle.meaning.specs.ReadType.{Head, head, memberBody, memberHead, readMember, readMembers, readGroup, readEnum, arrayHead, readArray, typeBody, typeAfter, readTy}
 use Rattle.meaning.specs.Encoding.{memberCount}
 use Rattle.meaning.proofs.Written.{bytesOf, exprBytes, headBytes, typeBytes, memberBytes, membersBytes, nameBytes}
 use Rattle.meaning.specs.Within.{Fits, AttributesOk, TyOk, MemberOk, MembersOk, tyDepth, memberDepth, membersDepth}
@@ -76,10 +76,6 @@ pub ty-node : (d at : ℕ) (s : List ℕ) → 0 < d → readTy d s at ≡ node (
 unfolding readTy
 ty-node zero at s h = absurd (not-suc-le-zero h)
 ty-node (suc d) at s h = let p : suc d - 1 ≡ d = omega arith in rw p
-
--- a group with these values
-abbrev pub groupOf : Attributes → Members → Group
-groupOf a ms = record { attributes = a; members = ms }
 
 -- a struct or union of kind k, if its members are read back
 grouped : (make : Attributes → Members → Ty) (s : List ℕ) (d at k m : ℕ) (rest : List ℕ) (f : Form) (a : Attributes) (ms : Members) (ys : List ℕ)

@@ -1,25 +1,23 @@
 -- The validators of enums, arrays and structs, and of all definitions.
-use Prim.Native.Nat.{ℕ, zero, suc, _+_, _*_, _-_, _≤_, _<_}
+use Prim.Native.Nat.{ℕ, suc, _+_, _-_, _≤_, _<_}
 use native.Mathlib.Omega.{arith}
-use mathlib.Core.Bool.{Bool, true, false}
-use mathlib.Core.Option.{Option, none, some}
+use mathlib.Core.Bool.{true, false}
+use mathlib.Core.Option.{Option}
 use mathlib.Core.Path.{_≡_, refl, sym, ap, ap₂, subst, _∙_}
-use mathlib.Core.List.{List, [], _∷_, _++_}
-use lib.ListN.{length, getD, drop, drop-of-length-le}
+use mathlib.Core.List.{List, [], _++_}
+use lib.ListN.{length, drop, drop-of-length-le}
 use Rattle.meaning.specs.Lists.{flatMap, filterMap, enumerate, push}
 use Rattle.meaning.specs.Lookup.{listOf}
-use Rattle.meaning.specs.Reader.{little}
 use Rattle.meaning.specs.ReadExpr.{readExpr}
-use Rattle.meaning.specs.ReadType.{readTy, readMember}
-use Rattle.meaning.specs.Tree.{Ty, primitive, typeRef, struct, union, enum, array, sizeUnion, Member, member, Definition}
+use Rattle.meaning.specs.ReadType.{readTy}
+use Rattle.meaning.specs.Tree.{Ty, primitive, typeRef, struct, union, enum, array, sizeUnion, member}
 use Rattle.meaning.specs.Violations.{Violation, validateType, validateEnumTagConstraints, validateArraySizeConstraints, validateStructFieldConstraints, checkArrayElementTypeSize, checkFieldLayoutDependency, violations}
 use Rattle.bundle.specs.declared.Step.the-variants.{Next, Refused}
 use Rattle.bundle.specs.View.{stepOf, Reads}
 use Rattle.bundle.specs.Definitions.{typeAt, membersAt, bundleOf, definitionAt, Table}
-use Rattle.bundle.specs.Expressions.{exprAt}
 use Rattle.bundle.proofs.LookupLaws.{from-place, placed-at}
 use Rattle.bundle.proofs.Trees.{refused-no, ended-reads}
-use Rattle.sizes.specs.Scan.{pathAt, referencesFrom, pathsFrom, Fits}
+use Rattle.sizes.specs.Scan.{pathsFrom}
 use Rattle.sizes.specs.Tests.{Kept}
 use Rattle.sizes.proofs.Parts.{members-none}
 use Rattle.sizes.proofs.ReferenceLaws.{expr-references}
@@ -29,8 +27,6 @@ use Rattle.fields.specs.declared.Shape.{Shape}
 use Rattle.fields.specs.declared.Shape.the-variants as shape
 use Rattle.fields.specs.Shapes.{StructAt, EnumAt, ArrayAt, isPlain, ShapeOf, FieldAt, PlacedAt}
 use Rattle.fields.proofs.Walking.{Passing, passing-next, passing-tree}
-use Rattle.checks.specs.declared.Check.{Check}
-use Rattle.checks.specs.Checks.{violationOf, Checked}
 use Rattle.validate.specs.declared.Position.{Position}
 use Rattle.validate.specs.declared.Subject.{Subject}
 use Rattle.validate.specs.Validating.{Wrote, Room, checkReference, violationsOf, violationsAt}

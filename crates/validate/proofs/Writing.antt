@@ -1,16 +1,16 @@
 -- Writing violations one behind the other.
-use Prim.Native.Nat.{ℕ, zero, suc, _+_, _*_, _-_, _≤_, _<_}
+use Prim.Native.Nat.{ℕ, zero, suc, _+_, _*_, _≤_, _<_}
 use native.Mathlib.Omega.{arith}
-use mathlib.Core.Bool.{Bool, true, false, cond, _&&_}
+use mathlib.Core.Bool.{Bool, true, false}
 use mathlib.Core.Option.{Option, none, some}
-use mathlib.Core.Path.{_≡_, refl, sym, ap, ap₂, subst, _∙_}
+use mathlib.Core.Path.{_≡_, refl, sym, ap, subst, _∙_}
 use mathlib.Core.List.{List, [], _∷_, _++_, append-nil, map}
 use lib.Dec.{T, leb, leb→le, ltb}
 use borrow.Author.Tests.{lt-ltb}
 use lib.ListN.{length, getD, take, length-append}
 use lib.Seq.{length-take-le}
 use Rattle.names.specs.Documents.{bytes}
-use Rattle.meaning.specs.Kinds.{Form, formOf, lookup}
+use Rattle.meaning.specs.Kinds.{formOf, lookup}
 use Rattle.meaning.specs.Lists.{flatMap, filterMap, push, onlyIf}
 use Rattle.meaning.specs.Reader.{little, namesFrom}
 use Rattle.meaning.specs.Report.{violationItems}
@@ -28,7 +28,7 @@ use Rattle.violation.specs.Records.{Puts, farthest, padded}
 use Rattle.violation.proofs.Putting.{puts-both, record-size, puts-size}
 use Rattle.checks.specs.declared.Check.{Check}
 use Rattle.checks.specs.declared.Check.the-variants as check
-use Rattle.checks.specs.Checks.{violationOf, Holds, Fitting, Checked, ReferenceIs}
+use Rattle.checks.specs.Checks.{violationOf, Fitting, Checked, ReferenceIs}
 use Rattle.bundle.specs.Definitions.{bundleOf}
 use Rattle.validate.specs.declared.Position.{Position}
 use Rattle.validate.specs.Validating.{Recorded, recordWith, recordBytes, Wrote, Room, checkReference}

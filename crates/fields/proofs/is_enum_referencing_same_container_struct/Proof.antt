@@ -4,11 +4,8 @@ use Rattle.fields.proofs.is_enum_referencing_same_container_struct.Tie 
 use borrow.Author.Needs.{needs}
 use Prim.Native.Nat.{_-_}
 use native.Mathlib.Omega.{arith}
-use mathlib.Core.Path.{sym, _∙_, subst}
-use Rattle.meaning.specs.ReadType.{readTy}
-use Rattle.bundle.specs.View.{Reads}
+use mathlib.Core.Path.{sym, _∙_}
 use Rattle.bundle.specs.Definitions.{bundleOf}
-use Rattle.bundle.proofs.LookupLaws.{placed-at}
 use Rattle.fields.proofs.Walking.{Containing, containing-start, containing-here, containing-next, containing-end, placed-reads}
 
 abbrev Inv-loop : tie.InvT-loop

@@ -3,7 +3,7 @@ use borrow.Author.Needs.{needs}
 use Rattle.fields.proofs.shape_at.Statement.{statement}
 use Rattle.fields.proofs.shape_at.Tie as tie
 use native.Mathlib.Omega.{arith}
-use mathlib.Core.Path.{sym, ap, subst, _∙_}
+use mathlib.Core.Path.{sym, ap, _∙_}
 use Rattle.meaning.specs.Tree.{typeRef}
 use Rattle.bundle.proofs.Forms.{not-type, primitive-meant, typeRef-meant, struct-meant, union-meant, enum-meant, array-meant, sizeUnion-meant}
 use Rattle.bundle.proofs.LeadLaws.{typeRef-there}
