@@ -16,3 +16,4 @@ pub mod Steps
 pub mod Trees
 pub mod TypeLaws
 pub mod TypeTrees
+mod Widths

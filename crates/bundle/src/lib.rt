@@ -1,5 +1,6 @@
 // Reads a bundle of layout definitions: accepts exactly the byte strings that the format allows.
 ghost use mathlib.Core.Path.{_≡_};
+ghost use mathlib.Core.Logic.{_⊎_};
 ghost use Prim.Native.Nat.{_+_, _≤_, _<_};
 ghost use lib.ListN.{length};
 ghost use mathlib.Core.List.{_∷_, []};
@@ -98,7 +99,9 @@ pub enum Answer {
 
 const WIDTHS: [u8; 8] = [8, 4, 2, 1, 8, 4, 2, 1];
 
-pub fn form_of(kind: u8) -> Form
+// The form of a kind that is no type's.
+fn form_of_other(kind: u8) -> Form
+    requires { ⌜ ((kind < 0x30) ⊎ (0x3B < kind)) × ((kind < 0x40) ⊎ (0x45 < kind)) ⌝ }
     ensures { λ r. ⌜ formMeant r ≡ formOf kind ⌝ }
 {
     match kind {
@@ -108,6 +111,21 @@ pub fn form_of(kind: u8) -> Form
         0x0E => Form::OfExpr(ExprForm::Alignof),
         0x10..=0x23 => Form::OfExpr(ExprForm::Binary),
         0x24..=0x27 => Form::OfExpr(ExprForm::Unary),
+        0x50 | 0x51 => Form::OfMember(0),
+        0x52 | 0x53 => Form::OfMember(8),
+        0x60 => Form::OfRecord(4, 1, 0),
+        0x61 => Form::OfRecord(0, 1, 0),
+        0x62 => Form::OfRecord(0, 2, 1),
+        _ => Form::Unknown,
+    }
+}
+
+// The form of a kind. Types stand apart: a function of these arms is compiled into its callers, which then decide by the kind itself;
+// one with an arm more is not.
+pub fn form_of(kind: u8) -> Form
+    ensures { λ r. ⌜ formMeant r ≡ formOf kind ⌝ }
+{
+    match kind {
         0x30..=0x3B => Form::OfType(TypeForm::Primitive),
         0x40 => Form::OfType(TypeForm::TypeRef),
         0x41 => Form::OfType(TypeForm::Struct),
@@ -115,12 +133,7 @@ pub fn form_of(kind: u8) -> Form
         0x43 => Form::OfType(TypeForm::Enum),
         0x44 => Form::OfType(TypeForm::Array),
         0x45 => Form::OfType(TypeForm::SizeUnion),
-        0x50 | 0x51 => Form::OfMember(0),
-        0x52 | 0x53 => Form::OfMember(8),
-        0x60 => Form::OfRecord(4, 1, 0),
-        0x61 => Form::OfRecord(0, 1, 0),
-        0x62 => Form::OfRecord(0, 2, 1),
-        _ => Form::Unknown,
+        _ => form_of_other(kind),
     }
 }
 
@@ -140,17 +153,13 @@ pub fn skip_bytes(s: &[u8], at: usize, n: usize) -> Step
 fn operands_of(kind: u8) -> Operands
     ensures { λ r. ⌜ r ≡ operandsOf (formOf kind) ⌝ }
 {
-    let form = form_of(kind);
-    let Form::OfExpr(e) = form else {
-        return Operands::Unknown;
-    };
-    match e {
-        ExprForm::Literal(n) => Operands::None(n as usize),
-        ExprForm::FieldRef(n) => Operands::None(2 * (n as usize)),
-        ExprForm::Sizeof => Operands::None(2),
-        ExprForm::Alignof => Operands::None(2),
-        ExprForm::Binary => Operands::Two,
-        ExprForm::Unary => Operands::One,
+    match kind {
+        0x01..=0x08 => Operands::None(WIDTHS[(kind - 1) as usize] as usize),
+        0x09..=0x0C => Operands::None(2 * ((kind - 8) as usize)),
+        0x0D | 0x0E => Operands::None(2),
+        0x10..=0x23 => Operands::Two,
+        0x24..=0x27 => Operands::One,
+        _ => Operands::Unknown,
     }
 }
 

@@ -1,6 +1,7 @@
 -- What a call answers for what was found.
 --     answers-none, -fits, -long     no chain, one that the list has places for, and one that it has not
---     called                         the call for an accepted bundle
+--     has-edges                      the edges of an accepted bundle
+--     called                         the call for it
 --     turned-down                    and for bytes that are refused
 use Prim.Native.Nat.{ℕ, _≤_, _<_}
 use mathlib.Core.Path.{_≡_, refl, sym, ap, _∙_}
@@ -19,12 +20,15 @@ use Rattle.bundle.specs.Opened.{LayoutOf, answerMeant}
 use Rattle.bundle.specs.declared.Layout.{Layout}
 use Rattle.bundle.specs.declared.Answer.the-variants.{Accepted, Refused}
 use Rattle.bundle.proofs.AnswerLaws.{due-opened}
-use Rattle.chain.specs.Edges.{graphAt}
+use Rattle.chain.specs.Edges.{graphAt, HasEdges}
 use Rattle.meaning.specs.Due.{chainNames, chaining}
 use Rattle.chain.specs.Found.{foundOf, listOf, Answers}
 use Rattle.chain.specs.declared.Found.{Found}
 use Rattle.chain.specs.declared.Found.the-variants.{Missing, Chain}
 use Rattle.chain.proofs.Edges.{chain-read}
+
+pub has-edges : {s : List ℕ} {l : Layout} {places : List ℕ} → LayoutOf s l places → HasEdges s (l .«edges_at») (l .edges)
+has-edges o = record { few = o .few; lie = omega (arith, o .from .end, o .edges) }
 
 module _ (found : Found) (size : ℕ) where
   pub answers-none : found ≡ Missing → (o : Option (List ℕ)) → found ≡ foundOf o → answerMeant (Accepted 0) ≡ calls.answerOf (calls.result (chainNames o)) size

@@ -521,24 +521,6 @@ fn find_many(bytes: &[u8], at: usize, count: usize, from: u16, to: u16, list: &m
     )
 }
 
-// The chain from `from` to `to` over `count` edges that stand in the bytes from `at` on, into the first places of `list`.
-pub fn find_chain_at(
-    bytes: &[u8],
-    at: usize,
-    count: usize,
-    from: u16,
-    to: u16,
-    list: &mut [u16],
-) -> Found
-    requires { ⌜ HasEdges (now bytes) at count ⌝ }
-    ensures { λ r. ⌜ Answers (chainOf (graphAt (now (bytes .entry)) at count) from to) (now (list .entry)) (now (list .exit)) r ⌝ }
-{
-    if count <= 64 {
-        return find_few(bytes, at, count, from, to, list);
-    }
-    find_many(bytes, at, count, from, to, list)
-}
-
 // What a call answers for what was found, where the list has so many places.
 fn answer_for(found: Found, size: usize) -> bundle::Answer
     ensures { λ r. ⌜ ((o : Option (List ℕ)) → found ≡ foundOf o → answerMeant r ≡ answerOf (result (chainNames o)) size) ⌝ }
@@ -555,29 +537,23 @@ fn answer_for(found: Found, size: usize) -> bundle::Answer
     }
 }
 
-// The chain from `from` to `to` over the edges of a bundle, into the first places of `list`, with a lent list of places.
-fn chain_in(
-    bytes: &[u8],
-    places: &mut [u16],
-    from: u16,
-    to: u16,
-    list: &mut [u16],
-) -> bundle::Answer
-    requires { ⌜ 256 < length (now places) ⌝ }
+// The chain from `from` to `to` over the edges of a bundle of any length, into the first places of `list`, with a place for every name.
+fn chain_long(bytes: &[u8], from: u16, to: u16, list: &mut [u16]) -> bundle::Answer
     ensures { λ r. ⌜ Call (chaining from to (now (bytes .entry))) (now (list .entry)) (now (list .exit)) (answerMeant r) ⌝ }
 {
-    let opening = bundle::open(bytes, places);
+    let mut places = [0u16; 65793];
+    let opening = bundle::open(bytes, &mut places);
     match opening {
         bundle::Opening::Opened(layout) => {
-            let found = find_chain_at(bytes, layout.edges_at, layout.edges, from, to, list);
+            let found = find_many(bytes, layout.edges_at, layout.edges, from, to, list);
             answer_for(found, list.len())
         }
         bundle::Opening::Refused(k) => bundle::Answer::Refused(k),
     }
 }
 
-// The chain from `from` to `to` over the edges of a bundle, into the first places of `list`. A short bundle is not worth the clearing of
-// a place for each name.
+// The chain from `from` to `to` over the edges of a bundle, into the first places of `list`. A short bundle with few edges is not worth
+// the clearing of a place for every name. As `chain_long` is called twice, the compiled code keeps it apart.
 pub fn find_layout_dependency_chain(
     bytes: &[u8],
     from: u16,
@@ -586,10 +562,19 @@ pub fn find_layout_dependency_chain(
 ) -> bundle::Answer
     ensures { λ r. ⌜ Call (chaining from to (now (bytes .entry))) (now (list .entry)) (now (list .exit)) (answerMeant r) ⌝ }
 {
-    if bytes.len() <= 1024 {
-        let mut places = [0u16; 257];
-        return chain_in(bytes, &mut places, from, to, list);
+    if 1024 < bytes.len() {
+        return chain_long(bytes, from, to, list);
     }
-    let mut places = [0u16; 65793];
-    chain_in(bytes, &mut places, from, to, list)
+    let mut places = [0u16; 257];
+    let opening = bundle::open(bytes, &mut places);
+    match opening {
+        bundle::Opening::Opened(layout) => {
+            if 64 < layout.edges {
+                return chain_long(bytes, from, to, list);
+            }
+            let found = find_few(bytes, layout.edges_at, layout.edges, from, to, list);
+            answer_for(found, list.len())
+        }
+        bundle::Opening::Refused(k) => bundle::Answer::Refused(k),
+    }
 }

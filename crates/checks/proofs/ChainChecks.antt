@@ -5,7 +5,6 @@ use mathlib.Core.Bool.{true, false, cond}
 use mathlib.Core.Option.{Option, none, some}
 use mathlib.Core.Path.{_≡_, refl, sym, ap, ap₂, subst, _∙_}
 use mathlib.Core.List.{List, [], _∷_, _++_}
-use lib.Dec.{eqb}
 use lib.ListN.{length, getD, drop, take, set, length-append}
 use lib.Seq.{take-at}
 use borrow.Author.Tests.{le-leb}
@@ -21,8 +20,9 @@ use Rattle.meaning.specs.Violations.{graph, findLayoutDependencyChain, isEnumRe
 use Rattle.meaning.specs.Violations.{checkEnumForwardReferenceInSameStruct, checkEnumTagLayoutCycle, checkArraySizeLayoutCycle}
 use Rattle.meaning.proofs.Chains.{chain-length}
 use Rattle.bundle.specs.declared.Layout.{Layout}
-use Rattle.bundle.specs.Definitions.{bundleOf}
+use Rattle.bundle.specs.Definitions.{typeAt, bundleOf, Table}
 use Rattle.bundle.specs.Opened.{LayoutOf}
+use Rattle.bundle.proofs.LookupLaws.{placed-type}
 use Rattle.chain.specs.declared.Found.{Found}
 use Rattle.chain.specs.declared.Found.the-variants.{Missing, Chain}
 use Rattle.chain.specs.Edges.{graphAt}
@@ -35,7 +35,8 @@ use Rattle.sizes.proofs.PathLaws.{path-names}
 use Rattle.checks.specs.declared.Check.the-variants as check
 use Rattle.checks.specs.declared.Part.{Part}
 use Rattle.checks.specs.declared.Part.the-variants as part
-use Rattle.checks.specs.Checks.{targetAt, typePart, PartOf, Checked, GraphOf, Known}
+use Rattle.sizes.specs.Tests.{definitionSizeDepends}
+use Rattle.checks.specs.Checks.{targetAt, typePart, PartOf, Checked, GraphOf}
 
 -- three stores into the first places
 pub set-three : (l : List ℕ) (a b c : ℕ) → 3 ≤ length l → set (set (set l 0 a) 1 b) 2 c ≡ a ∷ b ∷ c ∷ drop 3 l
@@ -170,10 +171,13 @@ pub part-other : (path : List ℕ) {r : Part} → r ≡ part.Other → PartOf pa
 part-other path e g = subst (PartOf path) e g
 
 -- the size test of the first definition of a name
-pub known-is : {s : List ℕ} {n : ℕ} {known : List ℕ} → Known s n known → {x i at : ℕ} → DefinitionIs s n x i at
-    → eqb (getD known i 0) 2 ≡ holds (namedSizeDepends (bundleOf s)) (findType (bundleOf s) x)
+pub size-is : {s : List ℕ} {n x i at : ℕ} → DefinitionIs s n x i at → definitionSizeDepends (bundleOf s) i ≡ holds (namedSizeDepends (bundleOf s)) (findType (bundleOf s) x)
 unfolding findType
-known-is {s} k {x} {i} g = k .is i (g .below) ∙ ap (λ m. holds (namedSizeDepends (bundleOf s)) (lookup.typeAt (bundleOf s) m)) (g .number)
+size-is {s} g = ap (definitionSizeDepends (bundleOf s)) (g .number)
 
-pub known-none : (s : List ℕ) (x : ℕ) → findType (bundleOf s) x ≡ none → false ≡ holds (namedSizeDepends (bundleOf s)) (findType (bundleOf s) x)
-known-none s x e = rw e
+-- that of a definition by its place
+pub size-at : {s : List ℕ} {n : ℕ} {places : List ℕ} → Table s n places → (i : ℕ) → i < n → definitionSizeDepends (bundleOf s) i ≡ namedSizeDepends (bundleOf s) (typeAt 24 s (getD places i 0))
+size-at {s} t i h = ap (holds (namedSizeDepends (bundleOf s))) (placed-type t i h)
+
+pub size-none : (s : List ℕ) (x : ℕ) → findType (bundleOf s) x ≡ none → false ≡ holds (namedSizeDepends (bundleOf s)) (findType (bundleOf s) x)
+size-none s x e = rw e

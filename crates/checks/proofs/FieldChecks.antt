@@ -7,11 +7,9 @@ use mathlib.Core.Path.{_≡_, refl, sym, ap, subst, _∙_}
 use mathlib.Core.List.{List, [], _∷_, map}
 use types.Run.{OneOf, miss}
 use denote.Enum.Declared.{tagOf}
-use lib.Dec.{eqb}
-use lib.ListN.{length, drop, getD}
-use Rattle.meaning.specs.Lists.{holds, findMap, orElse, onlyIf}
+use lib.ListN.{length, drop}
+use Rattle.meaning.specs.Lists.{findMap, orElse, onlyIf}
 use Rattle.meaning.specs.Lookup.{findType, asTypeRef}
-use Rattle.meaning.specs.Sizes.{namedSizeDepends}
 use Rattle.meaning.specs.Tree.{Ty, member}
 use Rattle.meaning.specs.Violations.{Violation, violation, fieldForward, checkForwardReference, checkFieldLayoutDependency}
 use Rattle.bundle.specs.declared.Step.the-variants.{Next}
@@ -30,8 +28,7 @@ use Rattle.sizes.specs.Scan.{pathAt, referencesFrom}
 use Rattle.sizes.proofs.ReferenceLaws.{type-references}
 use Rattle.checks.specs.declared.Check.the-variants as check
 use Rattle.checks.specs.declared.Part.the-variants as part
-use Rattle.checks.specs.Checks.{targetAt, PartOf, Checked, Known, isForward, find, positionShown, FitIn, Forwarded, forwardAt, OneField, ForwardIn}
-use Rattle.checks.proofs.ChainChecks.{known-is}
+use Rattle.checks.specs.Checks.{targetAt, PartOf, Checked, isForward, find, positionShown, FitIn, Forwarded, forwardAt, OneField, ForwardIn}
 use Rattle.checks.proofs.ForwardChecks.{part-forward}
 
 -- the position that was found passes the test
@@ -83,10 +80,6 @@ module _ {s : List ℕ} {n j : ℕ} {t : Ty} {r : Found} (w : ForwardIn s n j t 
 
   pub forward-many : PartOf (pathAt s p) part.Other → ⊥
   forward-many o = o (bundleOf s .current) (subst (OneField s) q (w .one))
-
--- the test of the definition that a field leads to
-pub known-at : {s : List ℕ} {n : ℕ} {known : List ℕ} → Known s n known → {x i at : ℕ} → DefinitionIs s n x i at → eqb (getD known i 0) 2 ≡ namedSizeDepends (bundleOf s) (typeAt 24 s at)
-known-at {s} k {x} {i} {at} g = known-is k g ∙ ap (holds (namedSizeDepends (bundleOf s))) (g .is)
 
 -- no TypeRef
 ref-other : (r : Shape) → OneOf (0 ∷ 1 ∷ 2 ∷ 4 ∷ []) (tagOf the-type r) → refShown r ≡ none

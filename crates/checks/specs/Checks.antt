@@ -1,15 +1,13 @@
 -- What the answers of the checks stand for.
-use Prim.Native.Nat.{ℕ, _+_, _*_, _≤_, _<_}
+use Prim.Native.Nat.{ℕ, _+_, _≤_, _<_}
 use mathlib.Core.Bool.{Bool, not, cond, _&&_, _||_}
 use mathlib.Core.Option.{Option, none, some}
 use mathlib.Core.List.{List, [], _∷_}
 use mathlib.Core.Path.{_≡_}
-use lib.Dec.{eqb}
-use lib.ListN.{length, getD, take}
-use Rattle.meaning.specs.Limits.{edgeLimit, definitionLimit}
-use Rattle.meaning.specs.Lists.{holds, findMap}
+use lib.ListN.{length, take}
+use Rattle.meaning.specs.Limits.{edgeLimit}
+use Rattle.meaning.specs.Lists.{findMap}
 use Rattle.meaning.specs.Lookup.{Target, parseFieldReference}
-use Rattle.meaning.specs.Lookup as lookup
 use Rattle.meaning.specs.Sizes.{namedSizeDepends, isEnumWithConstantSizeVariants}
 use Rattle.meaning.specs.References.{collectFieldReferencesInTypeKind}
 use Rattle.meaning.specs.Tree.{Ty, Bundle}
@@ -88,11 +86,6 @@ pub record GraphOf (s : List ℕ) (l : Layout) : Type 0 where
 -- the edges of the bundle are prepared for searches
 abbrev pub EdgesPrepared : List ℕ → Layout → List ℕ → List ℕ → List ℕ → List ℕ → List ℕ → ℕ → Type 0
 EdgesPrepared s l names table ends first links m = Prepared (graphAt s (l .«edges_at») (l .edges)) (l .edges) names table ends first links m
-
--- `known` has 2 for each of n definitions whose size depends on field references, and another number for the others
-pub record Known (s : List ℕ) (n : ℕ) (known : List ℕ) : Type 0 where
-  pub few : n ≤ definitionLimit
-  pub is : (i : ℕ) → i < n → eqb (getD known i 0) 2 ≡ holds (namedSizeDepends (bundleOf s)) (lookup.typeAt (bundleOf s) i)
 
 -- the first reference from `at` to `end` is at p, and those behind it start at `after`
 pub record ReferenceIs (s : List ℕ) (at end p after : ℕ) : Type 0 where

@@ -25,7 +25,7 @@ ghost use Rattle.chain.specs.Index.{Workspace};
 ghost use Rattle.sizes.specs.Paths.{Fit};
 ghost use Rattle.sizes.specs.Scan.{pathAt, referencesFrom, Fits};
 ghost use Rattle.sizes.specs.Tests.{Acyclic, Kept};
-ghost use Rattle.checks.specs.Checks.{targetAt, typePart, PartOf, Checked, GraphOf, EdgesPrepared, Known, Referred, isForward, Forwarded, ForwardIn};
+ghost use Rattle.checks.specs.Checks.{targetAt, typePart, PartOf, Checked, GraphOf, EdgesPrepared, Referred, isForward, Forwarded, ForwardIn};
 
 // What a check finds: nothing, or a violation by its type. The chain stands beside it in a lent list.
 pub enum Check {
@@ -142,24 +142,24 @@ fn check_enum_forward_reference_in_same_struct(
     Check::EnumForward(container, field)
 }
 
-// Whether the size of the first definition of the name depends on field references.
-fn size_depends(s: &[u8], places: &[u16], count: usize, known: &[u8; 256], name: u16) -> bool
-    requires { ⌜ Table (now s) count (now places) × Known (now s) count (now known) ⌝ }
-    ensures { λ r. ⌜ r ≡ holds (namedSizeDepends (bundleOf (now (s .entry)))) (findType (bundleOf (now (s .entry))) name) ⌝ }
+// Whether the size of the first definition of the name depends on field references. `kept` has the size test's answers.
+fn size_depends(s: &[u8], places: &[u16], count: usize, kept: &mut [u8; 256], name: u16) -> bool
+    requires { ⌜ Table (now s) count (now places) × Acyclic (now s) × Kept (now s) false (now kept) ⌝ }
+    ensures { λ r. ⌜ (r ≡ holds (namedSizeDepends (bundleOf (now (s .entry)))) (findType (bundleOf (now (s .entry))) name)) × Kept (now (s .entry)) false (now (kept .exit)) ⌝ }
 {
     let found = fields::find_definition(s, places, count, name);
     let Definition::At(i, _) = found else {
         return false;
     };
-    known[i] == 2
+    sizes::type_size_depends_on_field_refs(s, places, count, kept, i)
 }
 
-// Types 1 and 2, for the reference at `path` of an enum's tag.
+// Types 1 and 2, for the reference at `path` of an enum's tag. `kept` has the size test's answers.
 pub fn check_enum_tag_layout_cycle(
     s: &[u8],
     places: &[u16],
     layout: Layout,
-    known: &[u8; 256],
+    kept: &mut [u8; 256],
     name: u16,
     path: usize,
     names: &[u16],
@@ -174,9 +174,9 @@ pub fn check_enum_tag_layout_cycle(
     list: &mut [u16],
 ) -> Check
     requires { ⌜ EdgesPrepared (now s) layout (now names) (now table) (now ends) (now first) (now links) m × Workspace (layout .edges) (now queue) (now parents) ⌝ }
-    requires { ⌜ LayoutOf (now s) layout (now places) × Known (now s) (layout .definitions) (now known) ⌝ }
+    requires { ⌜ LayoutOf (now s) layout (now places) × Acyclic (now s) × Kept (now s) false (now kept) ⌝ }
     requires { ⌜ Fit (now s) path × (1025 ≤ length (now list)) ⌝ }
-    ensures { λ r. ⌜ Checked (now (s .entry)) name (now (list .exit)) r (λ i. checkEnumTagLayoutCycle (bundleOf (now (s .entry))) i name (pathAt (now (s .entry)) path)) ⌝ }
+    ensures { λ r. ⌜ Checked (now (s .entry)) name (now (list .exit)) r (λ i. checkEnumTagLayoutCycle (bundleOf (now (s .entry))) i name (pathAt (now (s .entry)) path)) × Kept (now (s .entry)) false (now (kept .exit)) ⌝ }
 {
     let count = layout.definitions;
     let target = sizes::parse_field_reference(s, path, layout.current);
@@ -191,7 +191,7 @@ pub fn check_enum_tag_layout_cycle(
             list,
         );
     }
-    if !size_depends(s, places, count, known, name) {
+    if !size_depends(s, places, count, kept, name) {
         return Check::Fine;
     }
     let found = find_layout_dependency_chain(
@@ -278,21 +278,21 @@ pub fn reference_at(s: &[u8], at: usize, end: usize) -> Reference
     Reference::At(p, p + 1 + 2 * sizes::path_length(s, p))
 }
 
-// Whether the reference at `path`, in the definition at `at` whose size depends on field references if `depends` is set, leads to a
-// field behind index `j` of the struct, and the definition needs it.
+// Whether the reference at `path`, in definition `i`, leads to a field behind index `j` of the struct, and the definition needs it.
+// `kept` has the size test's answers.
 fn check_forward_reference(
     s: &[u8],
     places: &[u16],
     layout: Layout,
+    kept: &mut [u8; 256],
     name: u16,
     j: usize,
-    at: usize,
-    depends: bool,
+    i: usize,
     path: usize,
 ) -> bool
-    requires { ⌜ LayoutOf (now s) layout (now places) × Fit (now s) path ⌝ }
-    requires { ⌜ Reads (readTy 24 (now s) at) × (depends ≡ namedSizeDepends (bundleOf (now s)) (typeAt 24 (now s) at)) ⌝ }
-    ensures { λ r. ⌜ r ≡ isForward (bundleOf (now (s .entry))) name j (typeAt 24 (now (s .entry)) at) (pathAt (now (s .entry)) path) ⌝ }
+    requires { ⌜ LayoutOf (now s) layout (now places) × Fit (now s) path × (i < layout .definitions) ⌝ }
+    requires { ⌜ Acyclic (now s) × Kept (now s) false (now kept) ⌝ }
+    ensures { λ r. ⌜ (r ≡ isForward (bundleOf (now (s .entry))) name j (typeAt 24 (now (s .entry)) (getD (now (places .entry)) i 0)) (pathAt (now (s .entry)) path)) × Kept (now (s .entry)) false (now (kept .exit)) ⌝ }
 {
     let target = sizes::parse_field_reference(s, path, layout.current);
     if target.name != name {
@@ -305,30 +305,31 @@ fn check_forward_reference(
     if !fields::stands_after(s, places, layout.definitions, name, field, j) {
         return false;
     }
-    if sizes::is_enum_with_constant_size_variants(s, at, 24) {
+    let place = fields::place_of(s, places, layout.definitions, i);
+    if sizes::is_enum_with_constant_size_variants(s, place.at, 24) {
         return false;
     }
-    if depends {
+    if sizes::type_size_depends_on_field_refs(s, places, layout.definitions, kept, i) {
         return true;
     }
-    sizes::type_needs_field_ref_for_layout(s, at, 24, path)
+    sizes::type_needs_field_ref_for_layout(s, place.at, 24, path)
 }
 
-// The first such reference from `from` to `end`, in the definition at `at`.
+// The first such reference from `from` to `end`.
 fn find_forward_reference(
     s: &[u8],
     places: &[u16],
     layout: Layout,
+    kept: &mut [u8; 256],
     name: u16,
     j: usize,
-    at: usize,
-    depends: bool,
+    i: usize,
     from: usize,
     end: usize,
 ) -> sizes::Found
-    requires { ⌜ LayoutOf (now s) layout (now places) × Reads (readTy 24 (now s) at) × (depends ≡ namedSizeDepends (bundleOf (now s)) (typeAt 24 (now s) at)) ⌝ }
+    requires { ⌜ LayoutOf (now s) layout (now places) × (i < layout .definitions) × Acyclic (now s) × Kept (now s) false (now kept) ⌝ }
     requires { ⌜ (end ≤ length (now s)) × Fits (now s) (referencesFrom (now s) from end) ⌝ }
-    ensures { λ r. ⌜ Forwarded (now (s .entry)) name j (typeAt 24 (now (s .entry)) at) (referencesFrom (now (s .entry)) from end) r ⌝ }
+    ensures { λ r. ⌜ Forwarded (now (s .entry)) name j (typeAt 24 (now (s .entry)) (getD (now (places .entry)) i 0)) (referencesFrom (now (s .entry)) from end) r × Kept (now (s .entry)) false (now (kept .exit)) ⌝ }
 {
     let mut next = from;
     while next < end {
@@ -336,7 +337,7 @@ fn find_forward_reference(
         let Reference::At(p, after) = reference else {
             return sizes::Found::Nothing;
         };
-        if check_forward_reference(s, places, layout, name, j, at, depends, p) {
+        if check_forward_reference(s, places, layout, kept, name, j, i, p) {
             return sizes::Found::At(p);
         }
         next = after;
@@ -349,34 +350,34 @@ fn find_forward(
     s: &[u8],
     places: &[u16],
     layout: Layout,
+    kept: &mut [u8; 256],
     name: u16,
     j: usize,
     i: usize,
-    depends: bool,
 ) -> sizes::Found
-    requires { ⌜ LayoutOf (now s) layout (now places) × (i < layout .definitions) × (depends ≡ namedSizeDepends (bundleOf (now s)) (typeAt 24 (now s) (getD (now places) i 0))) ⌝ }
-    ensures { λ r. ⌜ ForwardIn (now (s .entry)) name j (typeAt 24 (now (s .entry)) (getD (now (places .entry)) i 0)) r ⌝ }
+    requires { ⌜ LayoutOf (now s) layout (now places) × (i < layout .definitions) × Acyclic (now s) × Kept (now s) false (now kept) ⌝ }
+    ensures { λ r. ⌜ ForwardIn (now (s .entry)) name j (typeAt 24 (now (s .entry)) (getD (now (places .entry)) i 0)) r × Kept (now (s .entry)) false (now (kept .exit)) ⌝ }
 {
     let place = fields::place_of(s, places, layout.definitions, i);
     let end = fields::end_of(s, places, layout.definitions, i);
-    find_forward_reference(s, places, layout, name, j, place.at, depends, place.at, end)
+    find_forward_reference(s, places, layout, kept, name, j, i, place.at, end)
 }
 
 // Type 4, for the field at index `j` of the struct: the first reference to a later field in the definition to which the field's
-// type, a TypeRef, leads.
+// type, a TypeRef, leads. `kept` has the size test's answers.
 pub fn check_field_layout_dependency(
     s: &[u8],
     places: &[u16],
     layout: Layout,
-    known: &[u8; 256],
+    kept: &mut [u8; 256],
     name: u16,
     j: usize,
     field: Field,
     list: &mut [u16],
 ) -> Check
-    requires { ⌜ LayoutOf (now s) layout (now places) × Known (now s) (layout .definitions) (now known) ⌝ }
+    requires { ⌜ LayoutOf (now s) layout (now places) × Acyclic (now s) × Kept (now s) false (now kept) ⌝ }
     requires { ⌜ Reads (readTy 23 (now s) (field .at)) × (1025 ≤ length (now list)) ⌝ }
-    ensures { λ r. ⌜ ((v : ℕ) → Checked (now (s .entry)) name (now (list .exit)) r (λ i. checkFieldLayoutDependency (bundleOf (now (s .entry))) i name (j, member (field .name) v (typeAt 23 (now (s .entry)) (field .at))))) ⌝ }
+    ensures { λ r. ⌜ ((v : ℕ) → Checked (now (s .entry)) name (now (list .exit)) r (λ i. checkFieldLayoutDependency (bundleOf (now (s .entry))) i name (j, member (field .name) v (typeAt 23 (now (s .entry)) (field .at))))) × Kept (now (s .entry)) false (now (kept .exit)) ⌝ }
 {
     let count = layout.definitions;
     let shape = fields::shape_at(s, field.at, 23);
@@ -387,7 +388,7 @@ pub fn check_field_layout_dependency(
     let Definition::At(i, _) = found else {
         return Check::Fine;
     };
-    let forward = find_forward(s, places, layout, name, j, i, known[i] == 2);
+    let forward = find_forward(s, places, layout, kept, name, j, i);
     let sizes::Found::At(p) = forward else {
         return Check::Fine;
     };

@@ -1,20 +1,16 @@
 -- The report as a call writes it.
 use Prim.Native.Nat.{ℕ, _+_, _≤_, _<_}
 use native.Mathlib.Omega.{arith}
-use native.Mathlib.Decide.{decLt}
-use mathlib.Core.Logic.{by-cases}
-use mathlib.Core.Bool.{Bool, true, false}
-use mathlib.Core.Path.{_≡_, refl, sym, ap, subst, _∙_}
+use mathlib.Core.Bool.{false}
+use mathlib.Core.Path.{_≡_, sym, ap, subst, _∙_}
 use mathlib.Core.List.{List, [], _∷_, _++_}
-use lib.Dec.{eqb}
-use lib.ListN.{length, getD, set, drop, length-set}
-use lib.Seq.{sets-eq, getD-set-same, getD-set-other}
+use lib.ListN.{length, drop}
+use lib.Seq.{sets-eq}
 use borrow.Author.Tests.{le-leb, lt-leb}
 use Rattle.names.specs.Documents.{bytes}
 use Rattle.meaning.specs.Calls.{Answer, accepted, Call, result, answerOf, placesAfter, onBundle}
 use Rattle.meaning.specs.Circle.{circles}
 use Rattle.meaning.specs.Encoding.{Bytes}
-use Rattle.meaning.specs.Limits.{definitionLimit}
 use Rattle.meaning.specs.Report.{twoBytes, report}
 use Rattle.meaning.specs.Tree.{Bundle}
 use Rattle.meaning.specs.Violations.{violations}
@@ -25,43 +21,10 @@ use Rattle.bundle.specs.declared.Layout.{Layout}
 use Rattle.bundle.specs.Definitions.{bundleOf}
 use Rattle.bundle.specs.Opened.{LayoutOf, answerMeant}
 use Rattle.bundle.proofs.AnswerLaws.{due-opened}
-use Rattle.sizes.specs.Tests.{Kept, markOf, definitionSizeDepends}
-use Rattle.checks.specs.Checks.{Known}
 use Rattle.violation.specs.Records.{Puts}
 use Rattle.violation.proofs.Putting.{puts-both}
 use Rattle.validate.specs.declared.Position.{Position}
 use Rattle.validate.specs.Validating.{Wrote, Room}
-
--- the first i definitions are noted
-pub record Noting (s : List ℕ) (count : ℕ) (kept known : List ℕ) (i : ℕ) : Type 0 where
-  pub bound : i ≤ count
-  pub size : length known ≡ definitionLimit
-  pub keeps : Kept s false kept
-  pub is : (k : ℕ) → k < i → eqb (getD known k 0) 2 ≡ definitionSizeDepends (bundleOf s) k
-
-pub noting-start : (s : List ℕ) (count : ℕ) (known : List ℕ) {kept : List ℕ} → Kept s false kept → length known ≡ definitionLimit → Noting s count kept known 0
-noting-start s count known k l = record { bound = omega arith; size = l; keeps = k; is = λ k h. absurd (omega arith) }
-
-marked : (t : Bool) → eqb (markOf t) 2 ≡ t
-marked true = refl
-marked false = refl
-
-module _ {s : List ℕ} {count : ℕ} {kept known : List ℕ} {i : ℕ} (c : Noting s count kept known i) (few : count ≤ definitionLimit) where
-  pub noting-next : i < count → {kept′ : List ℕ} → Kept s false kept′ → (t : Bool) (m : ℕ) → t ≡ definitionSizeDepends (bundleOf s) i → m ≡ markOf t → Noting s count kept′ (set known i m) (i + 1)
-  noting-next h k t m e q = record {
-    bound = omega arith;
-    size = length-set known i m ∙ c .size;
-    keeps = k;
-    is = λ j l.
-        by-cases (decLt j i)
-        (λ (a : j < i). ap (λ x. eqb x 2) (getD-set-other known i j m 0 (λ z. omega arith)) ∙ c .is j a)
-        (λ (a : ¬ (j < i)).
-        let z : j ≡ i = omega arith in
-        rw z (ap (λ x. eqb x 2) (getD-set-same known i m 0 (omega (arith, c .size)) ∙ q) ∙ marked t ∙ e));
-  }
-
-  pub noting-end : count ≤ i → Known s count known
-  noting-end h = record { few = few; is = λ j l. c .is j (omega arith) }
 
 -- a bundle that was read has few violations
 pub read-few : (s : List ℕ) {l : Layout} {places : List ℕ} → Bytes s → LayoutOf s l places → length (violations (bundleOf s)) ≤ 65535

@@ -10,36 +10,15 @@ ghost use lib.ListN.{length, take, drop};
 ghost use Rattle.meaning.specs.Calls.{Call, result};
 ghost use Rattle.meaning.specs.Circle.{circles};
 ghost use Rattle.meaning.specs.Encoding.{Bytes};
-ghost use Rattle.meaning.specs.Limits.{definitionLimit};
 ghost use Rattle.meaning.specs.Due.{reporting};
 ghost use Rattle.meaning.specs.Report.{report};
 ghost use Rattle.meaning.specs.Violations.{violations};
 ghost use Rattle.bundle.specs.Definitions.{bundleOf, Table};
 ghost use Rattle.bundle.specs.Opened.{LayoutOf, answerMeant};
-ghost use Rattle.sizes.specs.Tests.{Acyclic, Kept, markOf};
+ghost use Rattle.sizes.specs.Tests.{Acyclic, Kept};
 ghost use Rattle.chain.specs.Index.{Room, Workspace};
-ghost use Rattle.checks.specs.Checks.{EdgesPrepared, Known};
+ghost use Rattle.checks.specs.Checks.{EdgesPrepared};
 ghost use Rattle.violation.specs.Records.{Puts};
-
-// How the answer of a size test is noted.
-fn mark_of(depends: bool) -> u8
-    ensures { λ r. ⌜ r ≡ markOf depends ⌝ }
-{
-    if depends { 2 } else { 1 }
-}
-
-// Notes for each definition whether its size depends on field references.
-fn note_sizes(s: &[u8], places: &[u16], count: usize, kept: &mut [u8; 256], known: &mut [u8; 256])
-    requires { ⌜ Table (now s) count (now places) × Acyclic (now s) × Kept (now s) false (now kept) × (length (now known) ≡ definitionLimit) ⌝ }
-    ensures { λ _. ⌜ Known (now (s .entry)) count (now (known .exit)) × Kept (now (s .entry)) false (now (kept .exit)) ⌝ }
-{
-    let mut i = 0;
-    while i < count {
-        let depends = sizes::type_size_depends_on_field_refs(s, places, count, kept, i);
-        known[i] = mark_of(depends);
-        i += 1;
-    }
-}
 
 // Copies the places from 3 to `end` of a draft.
 fn copy_records(draft: &[u8], end: usize, out: &mut [u8])
@@ -58,7 +37,6 @@ fn write_report(
     s: &[u8],
     places: &[u16],
     layout: Layout,
-    known: &[u8; 256],
     kept: &mut [u8; 256],
     nested: &mut [u8; 256],
     names: &[u16],
@@ -74,7 +52,7 @@ fn write_report(
     out: &mut [u8],
 ) -> Answer
     requires { ⌜ EdgesPrepared (now s) layout (now names) (now table) (now ends) (now first) (now links) m × Workspace (layout .edges) (now queue) (now parents) ⌝ }
-    requires { ⌜ LayoutOf (now s) layout (now places) × Known (now s) (layout .definitions) (now known) ⌝ }
+    requires { ⌜ LayoutOf (now s) layout (now places) ⌝ }
     requires { ⌜ (1025 ≤ length (now list)) × (length (violations (bundleOf (now s))) ≤ 65535) ⌝ }
     requires { ⌜ Acyclic (now s) × Kept (now s) false (now kept) × Kept (now s) true (now nested) ⌝ }
     ensures { λ r. ⌜ Call (result (report (bundleOf (now (s .entry))))) (now (out .entry)) (now (out .exit)) (answerMeant r) ⌝ }
@@ -85,7 +63,6 @@ fn write_report(
         s,
         places,
         layout,
-        known,
         kept,
         nested,
         names,
@@ -114,7 +91,6 @@ fn write_report(
         s,
         places,
         layout,
-        known,
         kept,
         nested,
         names,
@@ -152,7 +128,6 @@ fn report_with(
     requires { ⌜ LayoutOf (now s) layout (now places) × (circles (bundleOf (now s)) ≡ false) ⌝ }
     ensures { λ r. ⌜ Call (result (report (bundleOf (now (s .entry))))) (now (out .entry)) (now (out .exit)) (answerMeant r) ⌝ }
 {
-    let mut known = [0u8; 256];
     let mut kept = [0u8; 256];
     let mut nested = [0u8; 256];
     let mut list = [0u16; 1025];
@@ -166,12 +141,10 @@ fn report_with(
         first,
         links,
     );
-    note_sizes(s, places, layout.definitions, &mut kept, &mut known);
     write_report(
         s,
         places,
         layout,
-        &known,
         &mut kept,
         &mut nested,
         names,
@@ -247,38 +220,37 @@ fn report_many(s: &[u8], places: &[u16], layout: Layout, out: &mut [u8]) -> Answ
     )
 }
 
-// The report of an opened bundle.
-fn report_opened(s: &[u8], places: &[u16], layout: Layout, out: &mut [u8]) -> Answer
-    requires { ⌜ LayoutOf (now s) layout (now places) × (circles (bundleOf (now s)) ≡ false) ⌝ }
-    ensures { λ r. ⌜ Call (result (report (bundleOf (now (s .entry))))) (now (out .entry)) (now (out .exit)) (answerMeant r) ⌝ }
-{
-    if layout.edges <= 64 {
-        return report_few(s, places, layout, out);
-    }
-    report_many(s, places, layout, out)
-}
-
-// Writes the report of a bundle into the first places of `out`, with a lent list of places. A refusal writes nothing.
-fn report_in(bundle: &[u8], places: &mut [u16], out: &mut [u8]) -> Answer
-    requires { ⌜ 256 < length (now places) ⌝ }
+// Writes the report of a bundle of any length, with a place for every name.
+fn report_long(bundle: &[u8], out: &mut [u8]) -> Answer
     ensures { λ r. ⌜ Call (reporting (now (bundle .entry))) (now (out .entry)) (now (out .exit)) (answerMeant r) ⌝ }
 {
-    let opening = bundle::open(bundle, places);
+    let mut places = [0u16; 65793];
+    let opening = bundle::open(bundle, &mut places);
     match opening {
-        Opening::Opened(layout) => report_opened(bundle, places, layout, out),
+        Opening::Opened(layout) => report_many(bundle, &places, layout, out),
         Opening::Refused(k) => Answer::Refused(k),
     }
 }
 
-// Writes the report of a bundle into the first places of `out`. A refusal writes nothing. A short bundle is not worth the clearing of a
-// place for each name.
+// Writes the report of a bundle into the first places of `out`. A refusal writes nothing. A short bundle with few edges is not worth
+// the clearing of a place for every name. It is opened here: were `report_long` called only once, the compiled code would join it to
+// this function, and a short bundle would touch every page of its lists.
 pub fn report(bundle: &[u8], out: &mut [u8]) -> Answer
     ensures { λ r. ⌜ Call (reporting (now (bundle .entry))) (now (out .entry)) (now (out .exit)) (answerMeant r) ⌝ }
 {
-    if bundle.len() <= 1024 {
-        let mut places = [0u16; 257];
-        return report_in(bundle, &mut places, out);
+    if 1024 < bundle.len() {
+        return report_long(bundle, out);
     }
-    let mut places = [0u16; 65793];
-    report_in(bundle, &mut places, out)
+    let mut places = [0u16; 257];
+    let opening = bundle::open(bundle, &mut places);
+    match opening {
+        Opening::Opened(layout) => {
+            if layout.edges <= 64 {
+                report_few(bundle, &places, layout, out)
+            } else {
+                report_long(bundle, out)
+            }
+        }
+        Opening::Refused(k) => Answer::Refused(k),
+    }
 }

@@ -173,6 +173,14 @@ module _ {whole : List Violation} {out₀ : List ℕ} {p₀ : Position} {left : 
     on = λ out″ r k. g .on out″ r (subst (λ vs. Wrote vs out p out″ r) (sym e) (wrote-both w k));
   }
 
+-- a check that found nothing writes nothing
+pub put-fine : (s : List ℕ) (i n : ℕ) (list : List ℕ) {c : Check} → c ≡ check.Fine → {out out′ : List ℕ} {p q : Position} → out′ ≡ out → q ≡ p → Wrote (push (violationOf s i n list c) []) out p out′ q
+put-fine s i n list e {out} {out′} {p} {q} a b = rw (e, a, b) (wrote-none out p)
+
+-- what is written, where the places and the position are told by equations
+pub wrote-same : {vs : List Violation} {out out′ out″ : List ℕ} {p q r : Position} → Wrote vs out p out′ q → out″ ≡ out′ → r ≡ q → Wrote vs out p out″ r
+wrote-same w a b = rw (a, b) w
+
 -- what one check finds, in front of the rest
 pub push-append : (o : Option Violation) (vs : List Violation) → push o vs ≡ push o [] ++ vs
 push-append none vs = refl

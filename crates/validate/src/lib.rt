@@ -22,7 +22,7 @@ ghost use Rattle.sizes.specs.Scan.{pathAt, pathsFrom, referencesFrom, Fits};
 ghost use Rattle.sizes.specs.Tests.{Acyclic, Kept};
 ghost use Rattle.fields.specs.Shapes.{StructAt, EnumAt, ArrayAt};
 ghost use Rattle.violation.specs.Records.{padded};
-ghost use Rattle.checks.specs.Checks.{violationOf, Fitting, Checked, EdgesPrepared, Known};
+ghost use Rattle.checks.specs.Checks.{violationOf, Fitting, Checked, EdgesPrepared};
 ghost use Rattle.validate.specs.Validating.{Recorded, Wrote, Room, recordWith, pathOfTwo, checkReference, violationsOf, violationsAt};
 
 // How far a report is written: the place behind it, and the count of its violations.
@@ -113,7 +113,8 @@ fn record_of(s: &[u8], check: Check) -> Record
     }
 }
 
-// Writes the record of what a check of definition `i` found, with the chain that stands in the list.
+// Writes the record of what a check of definition `i` found, with the chain that stands in the list. The loops below call it only
+// where there is one: a position that is handed over and back costs more than most checks.
 fn put_check(
     s: &[u8],
     out: &mut [u8],
@@ -143,7 +144,7 @@ fn check_reference(
     s: &[u8],
     places: &[u16],
     layout: Layout,
-    known: &[u8; 256],
+    kept: &mut [u8; 256],
     name: u16,
     tag: bool,
     path: usize,
@@ -159,16 +160,16 @@ fn check_reference(
     list: &mut [u16],
 ) -> Check
     requires { ⌜ EdgesPrepared (now s) layout (now names) (now table) (now ends) (now first) (now links) m × Workspace (layout .edges) (now queue) (now parents) ⌝ }
-    requires { ⌜ LayoutOf (now s) layout (now places) × Known (now s) (layout .definitions) (now known) ⌝ }
+    requires { ⌜ LayoutOf (now s) layout (now places) × Acyclic (now s) × Kept (now s) false (now kept) ⌝ }
     requires { ⌜ Fit (now s) path × (1025 ≤ length (now list)) ⌝ }
-    ensures { λ r. ⌜ Checked (now (s .entry)) name (now (list .exit)) r (λ i. checkReference tag (bundleOf (now (s .entry))) i name (pathAt (now (s .entry)) path)) ⌝ }
+    ensures { λ r. ⌜ Checked (now (s .entry)) name (now (list .exit)) r (λ i. checkReference tag (bundleOf (now (s .entry))) i name (pathAt (now (s .entry)) path)) × Kept (now (s .entry)) false (now (kept .exit)) ⌝ }
 {
     if tag {
         return checks::check_enum_tag_layout_cycle(
             s,
             places,
             layout,
-            known,
+            kept,
             name,
             path,
             names,
@@ -206,7 +207,7 @@ fn validate_references(
     s: &[u8],
     places: &[u16],
     layout: Layout,
-    known: &[u8; 256],
+    kept: &mut [u8; 256],
     subject: Subject,
     tag: bool,
     at: usize,
@@ -225,10 +226,10 @@ fn validate_references(
     position: Position,
 ) -> Position
     requires { ⌜ EdgesPrepared (now s) layout (now names) (now table) (now ends) (now first) (now links) m × Workspace (layout .edges) (now queue) (now parents) ⌝ }
-    requires { ⌜ LayoutOf (now s) layout (now places) × Known (now s) (layout .definitions) (now known) × (subject .number < definitionLimit) ⌝ }
+    requires { ⌜ LayoutOf (now s) layout (now places) × Acyclic (now s) × Kept (now s) false (now kept) × (subject .number < definitionLimit) ⌝ }
     requires { ⌜ (1025 ≤ length (now list)) × (end ≤ length (now s)) × Fits (now s) (referencesFrom (now s) at end) ⌝ }
     requires { ⌜ Room position (filterMap (checkReference tag (bundleOf (now s)) (subject .number) (subject .name)) (pathsFrom (now s) at end)) ⌝ }
-    ensures { λ r. ⌜ Wrote (filterMap (checkReference tag (bundleOf (now (s .entry))) (subject .number) (subject .name)) (pathsFrom (now (s .entry)) at end)) (now (out .entry)) position (now (out .exit)) r ⌝ }
+    ensures { λ r. ⌜ Wrote (filterMap (checkReference tag (bundleOf (now (s .entry))) (subject .number) (subject .name)) (pathsFrom (now (s .entry)) at end)) (now (out .entry)) position (now (out .exit)) r × Kept (now (s .entry)) false (now (kept .exit)) ⌝ }
 {
     let i = subject.number;
     let name = subject.name;
@@ -243,7 +244,7 @@ fn validate_references(
             s,
             places,
             layout,
-            known,
+            kept,
             name,
             tag,
             path,
@@ -258,7 +259,10 @@ fn validate_references(
             marks,
             list,
         );
-        reached = put_check(s, out, reached, i, name, check, list);
+        match check {
+            Check::Fine => {}
+            _ => reached = put_check(s, out, reached, i, name, check, list),
+        }
         next = after;
     }
     reached
@@ -269,7 +273,7 @@ fn validate_enum_tag_constraints(
     s: &[u8],
     places: &[u16],
     layout: Layout,
-    known: &[u8; 256],
+    kept: &mut [u8; 256],
     subject: Subject,
     names: &[u16],
     table: &[u16],
@@ -285,9 +289,9 @@ fn validate_enum_tag_constraints(
     position: Position,
 ) -> Position
     requires { ⌜ EdgesPrepared (now s) layout (now names) (now table) (now ends) (now first) (now links) m × Workspace (layout .edges) (now queue) (now parents) ⌝ }
-    requires { ⌜ LayoutOf (now s) layout (now places) × Known (now s) (layout .definitions) (now known) × (subject .number < definitionLimit) ⌝ }
+    requires { ⌜ LayoutOf (now s) layout (now places) × Acyclic (now s) × Kept (now s) false (now kept) × (subject .number < definitionLimit) ⌝ }
     requires { ⌜ (1025 ≤ length (now list)) × EnumAt 24 (now s) (subject .at) × Room position (violationsOf (now s) subject) ⌝ }
-    ensures { λ r. ⌜ Wrote (violationsOf (now (s .entry)) subject) (now (out .entry)) position (now (out .exit)) r ⌝ }
+    ensures { λ r. ⌜ Wrote (violationsOf (now (s .entry)) subject) (now (out .entry)) position (now (out .exit)) r × Kept (now (s .entry)) false (now (kept .exit)) ⌝ }
 {
     let start = subject.at + 12;
     let step = bundle::expr_at(s, start, 23);
@@ -296,7 +300,7 @@ fn validate_enum_tag_constraints(
             s,
             places,
             layout,
-            known,
+            kept,
             subject,
             true,
             start,
@@ -323,7 +327,6 @@ fn validate_array_size_constraints(
     s: &[u8],
     places: &[u16],
     layout: Layout,
-    known: &[u8; 256],
     kept: &mut [u8; 256],
     nested: &mut [u8; 256],
     subject: Subject,
@@ -342,7 +345,7 @@ fn validate_array_size_constraints(
     position: Position,
 ) -> Position
     requires { ⌜ EdgesPrepared (now s) layout (now names) (now table) (now ends) (now first) (now links) m × Workspace (layout .edges) (now queue) (now parents) ⌝ }
-    requires { ⌜ LayoutOf (now s) layout (now places) × Known (now s) (layout .definitions) (now known) × (subject .number < definitionLimit) ⌝ }
+    requires { ⌜ LayoutOf (now s) layout (now places) × (subject .number < definitionLimit) ⌝ }
     requires { ⌜ (1025 ≤ length (now list)) × ArrayAt 24 (now s) (subject .at) jagged × Room position (violationsOf (now s) subject) ⌝ }
     requires { ⌜ Acyclic (now s) × Kept (now s) false (now kept) × Kept (now s) true (now nested) ⌝ }
     ensures { λ r. ⌜ Wrote (violationsOf (now (s .entry)) subject) (now (out .entry)) position (now (out .exit)) r × Kept (now (s .entry)) false (now (kept .exit)) × Kept (now (s .entry)) true (now (nested .exit)) ⌝ }
@@ -369,7 +372,7 @@ fn validate_array_size_constraints(
                 s,
                 places,
                 layout,
-                known,
+                kept,
                 subject,
                 false,
                 start,
@@ -397,16 +400,16 @@ fn validate_struct_field_constraints(
     s: &[u8],
     places: &[u16],
     layout: Layout,
-    known: &[u8; 256],
+    kept: &mut [u8; 256],
     subject: Subject,
     count: usize,
     list: &mut [u16],
     out: &mut [u8],
     position: Position,
 ) -> Position
-    requires { ⌜ LayoutOf (now s) layout (now places) × Known (now s) (layout .definitions) (now known) × (subject .number < definitionLimit) ⌝ }
+    requires { ⌜ LayoutOf (now s) layout (now places) × Acyclic (now s) × Kept (now s) false (now kept) × (subject .number < definitionLimit) ⌝ }
     requires { ⌜ (1025 ≤ length (now list)) × StructAt 24 (now s) (subject .at) count × Room position (violationsOf (now s) subject) ⌝ }
-    ensures { λ r. ⌜ Wrote (violationsOf (now (s .entry)) subject) (now (out .entry)) position (now (out .exit)) r ⌝ }
+    ensures { λ r. ⌜ Wrote (violationsOf (now (s .entry)) subject) (now (out .entry)) position (now (out .exit)) r × Kept (now (s .entry)) false (now (kept .exit)) ⌝ }
 {
     let i = subject.number;
     let name = subject.name;
@@ -420,13 +423,16 @@ fn validate_struct_field_constraints(
             s,
             places,
             layout,
-            known,
+            kept,
             name,
             count - left,
             field,
             list,
         );
-        reached = put_check(s, out, reached, i, name, check, list);
+        match check {
+            Check::Fine => {}
+            _ => reached = put_check(s, out, reached, i, name, check, list),
+        }
         next = field.next;
         left -= 1;
     }
@@ -438,7 +444,6 @@ fn validate_type(
     s: &[u8],
     places: &[u16],
     layout: Layout,
-    known: &[u8; 256],
     kept: &mut [u8; 256],
     nested: &mut [u8; 256],
     i: usize,
@@ -456,7 +461,7 @@ fn validate_type(
     position: Position,
 ) -> Position
     requires { ⌜ EdgesPrepared (now s) layout (now names) (now table) (now ends) (now first) (now links) m × Workspace (layout .edges) (now queue) (now parents) ⌝ }
-    requires { ⌜ LayoutOf (now s) layout (now places) × Known (now s) (layout .definitions) (now known) × (i < layout .definitions) ⌝ }
+    requires { ⌜ LayoutOf (now s) layout (now places) × (i < layout .definitions) ⌝ }
     requires { ⌜ (1025 ≤ length (now list)) × Room position (violationsAt (now s) (now places) i) ⌝ }
     requires { ⌜ Acyclic (now s) × Kept (now s) false (now kept) × Kept (now s) true (now nested) ⌝ }
     ensures { λ r. ⌜ Wrote (violationsAt (now (s .entry)) (now (places .entry)) i) (now (out .entry)) position (now (out .exit)) r × Kept (now (s .entry)) false (now (kept .exit)) × Kept (now (s .entry)) true (now (nested .exit)) ⌝ }
@@ -473,7 +478,7 @@ fn validate_type(
             s,
             places,
             layout,
-            known,
+            kept,
             subject,
             n,
             list,
@@ -484,7 +489,7 @@ fn validate_type(
             s,
             places,
             layout,
-            known,
+            kept,
             subject,
             names,
             table,
@@ -503,7 +508,6 @@ fn validate_type(
             s,
             places,
             layout,
-            known,
             kept,
             nested,
             subject,
@@ -531,7 +535,6 @@ pub fn validate_layout_constraints(
     s: &[u8],
     places: &[u16],
     layout: Layout,
-    known: &[u8; 256],
     kept: &mut [u8; 256],
     nested: &mut [u8; 256],
     names: &[u16],
@@ -548,7 +551,7 @@ pub fn validate_layout_constraints(
     position: Position,
 ) -> Position
     requires { ⌜ EdgesPrepared (now s) layout (now names) (now table) (now ends) (now first) (now links) m × Workspace (layout .edges) (now queue) (now parents) ⌝ }
-    requires { ⌜ LayoutOf (now s) layout (now places) × Known (now s) (layout .definitions) (now known) ⌝ }
+    requires { ⌜ LayoutOf (now s) layout (now places) ⌝ }
     requires { ⌜ (1025 ≤ length (now list)) × Room position (violations (bundleOf (now s))) ⌝ }
     requires { ⌜ Acyclic (now s) × Kept (now s) false (now kept) × Kept (now s) true (now nested) ⌝ }
     ensures { λ r. ⌜ Wrote (violations (bundleOf (now (s .entry)))) (now (out .entry)) position (now (out .exit)) r × Kept (now (s .entry)) false (now (kept .exit)) × Kept (now (s .entry)) true (now (nested .exit)) ⌝ }
@@ -561,7 +564,6 @@ pub fn validate_layout_constraints(
             s,
             places,
             layout,
-            known,
             kept,
             nested,
             i,

@@ -2,12 +2,12 @@
 use borrow.Author.Needs.{needs}
 use Rattle.checks.proofs.size_depends.Statement.{statement}
 use Rattle.checks.proofs.size_depends.Tie as tie
-use native.Mathlib.Omega.{arith}
+use mathlib.Core.Path.{_∙_}
 use Rattle.fields.proofs.Lookups.{definition-at, definition-no}
-use Rattle.checks.proofs.ChainChecks.{known-is, known-none}
+use Rattle.checks.proofs.ChainChecks.{size-is, size-none}
 
 find-definition-requires : tie.Need-find-definition-requires
-find-definition-requires c κs = search needs
+find-definition-requires c κs = c .before .before .pre .0
 
 enum-known-found : tie.Need-enum-known-found
 enum-known-found c = search needs
@@ -16,13 +16,13 @@ enum-told : tie.Need-enum-told
 enum-told c = search needs
 
 returns : tie.Need-returns
-returns c = known-none _ _ (definition-no _ _ _ (c .enum-told .given .1) (c .before .before .find-definition .ensures))
+returns c = (size-none _ _ (definition-no _ _ _ (c .enum-told .given .1) (c .before .before .find-definition .ensures)), c .before .before .before .before .before .pre .2)
 
-element-copy-out-result : tie.Need-element-copy-out-result
-element-copy-out-result c = omega (arith, (definition-at _ _ _ (c .before .found .given .1) (c .before .before .before .find-definition .ensures)) .below, c .before .before .before .before .before .before .pre .1 .few)
+type-size-depends-on-field-refs-requires : tie.Need-type-size-depends-on-field-refs-requires
+type-size-depends-on-field-refs-requires c κs = (c .before .before .before .before .before .before .before .pre .0, (definition-at _ _ _ (c .before .before .found .given .1) (c .before .before .before .before .find-definition .ensures)) .below, c .before .before .before .before .before .before .before .pre .1, c .before .before .before .before .before .before .before .pre .2)
 
 returns-2 : tie.Need-returns-2
-returns-2 c = known-is (c .before .before .before .before .before .before .before .pre .1) (definition-at _ _ _ (c .before .before .found .given .1) (c .before .before .before .before .find-definition .ensures))
+returns-2 c = (c .type-size-depends-on-field-refs .ensures .0 ∙ size-is (definition-at _ _ _ (c .before .before .before .found .given .1) (c .before .before .before .before .before .find-definition .ensures)), c .type-size-depends-on-field-refs .ensures .1)
 
 pub size-depends-spec : {M : Type 1} → statement M
 size-depends-spec =
@@ -32,5 +32,5 @@ size-depends-spec =
     enum-known-found
     enum-told
     returns
-    element-copy-out-result
+    type-size-depends-on-field-refs-requires
     returns-2)

@@ -1,44 +1,78 @@
--- `report::report` meets its contract.
+-- `report::report` meets its contract: that of `report_long`, or as there with short lists.
 use borrow.Author.Needs.{needs}
 use Rattle.report.proofs.report.Statement.{statement}
 use Rattle.report.proofs.report.Tie as tie
 use Prim.Native.Nat.{ℕ}
 use native.Mathlib.Omega.{arith}
 use lib.ListN.{length-replicate}
+use Rattle.meaning.specs.Due.{reporting}
+use Rattle.bundle.proofs.AnswerLaws.{opened-layout, opened-refused}
+use Rattle.chain.proofs.Called.{turned-down}
+use Rattle.report.proofs.Reporting.{called}
 
-slice-aggregate-report-in : tie.Need-slice-aggregate-report-in
-slice-aggregate-report-in c = search needs
-
-report-in-requires : tie.Need-report-in-requires
-report-in-requires c κs = omega (arith, length-replicate {A = ℕ} 257 0)
+report-long-requires : tie.Need-report-long-requires
+report-long-requires c κs = search needs
 
 same-length : tie.Need-same-length
 same-length c = search needs
 
 returns : tie.Need-returns
-returns c = c .before .before .before .report-in .ensures
+returns c = c .before .before .report-long .ensures
 
-slice-aggregate-report-in-2 : tie.Need-slice-aggregate-report-in-2
-slice-aggregate-report-in-2 c = search needs
+slice-aggregate-open : tie.Need-slice-aggregate-open
+slice-aggregate-open c = search needs
 
-report-in-requires-2 : tie.Need-report-in-requires-2
-report-in-requires-2 c κs = omega (arith, length-replicate {A = ℕ} 65793 0)
+open-requires : tie.Need-open-requires
+open-requires c κs = omega (arith, length-replicate {A = ℕ} 257 0)
+
+enum-known-opening : tie.Need-enum-known-opening
+enum-known-opening c = search needs
+
+slice-aggregate-report-few : tie.Need-slice-aggregate-report-few
+slice-aggregate-report-few c = search needs
+
+report-few-requires : tie.Need-report-few-requires
+report-few-requires c κs = (c .before .before .if2 .taken, opened-layout _ _ _ _ (c .before .before .before .before .before .before .before .before .«open» .ensures) (c .before .before .before .before .before .opening .given .1))
+
+report-long-requires-2 : tie.Need-report-long-requires-2
+report-long-requires-2 c κs = search needs
+
+enum-known-opening-2 : tie.Need-enum-known-opening-2
+enum-known-opening-2 c = search needs
 
 same-length-2 : tie.Need-same-length-2
 same-length-2 c = search needs
 
 returns-2 : tie.Need-returns-2
-returns-2 c = c .before .before .before .report-in2 .ensures
+unfolding reporting
+returns-2 c = let o = opened-layout _ _ _ _ (c .before .before .before .before .before .before .before .before .before .before .before .«open» .ensures) (c .before .before .before .before .before .before .before .before .opening .given .1) in called (o .0) (o .1) (c .before .before .report-few .ensures)
+
+same-length-3 : tie.Need-same-length-3
+same-length-3 c = search needs
+
+returns-3 : tie.Need-returns-3
+returns-3 c = c .before .before .report-long2 .ensures
+
+returns-4 : tie.Need-returns-4
+unfolding reporting
+returns-4 c = turned-down _ (opened-refused _ _ _ _ (c .before .before .before .before .«open» .ensures) (c .before .opening2 .given .1) _)
 
 pub report-spec : {M : Type 1} → statement M
 report-spec =
     tie.close
     (tie.spec
-    slice-aggregate-report-in
-    report-in-requires
+    report-long-requires
     same-length
     returns
-    slice-aggregate-report-in-2
-    report-in-requires-2
+    slice-aggregate-open
+    open-requires
+    enum-known-opening
+    slice-aggregate-report-few
+    report-few-requires
+    report-long-requires-2
+    enum-known-opening-2
     same-length-2
-    returns-2)
+    returns-2
+    same-length-3
+    returns-3
+    returns-4)

@@ -18,7 +18,7 @@ enum-known-step : tie.Need-enum-known-step
 enum-known-step c = search needs
 
 validate-references-requires : tie.Need-validate-references-requires
-validate-references-requires c κs = (c .before .before .before .before .before .before .before .before .before .before .before .before .before .before .before .before .before .before .before .before .before .before .pre .0, (c .before .before .before .before .before .before .before .before .before .before .before .before .before .before .before .before .before .before .before .before .before .before .pre .1 .0, ((c .before .before .before .before .before .before .before .before .before .before .before .before .before .before .before .before .before .before .before .before .before .before .pre .1 .1 .0, expr-bound 23 _ _ _ (sym (c .before .before .before .before .before .before .step .given .1) ∙ c .before .before .before .before .before .before .before .before .expr-at .ensures), expr-fits 23 _ _ _ (sym (c .before .before .before .before .before .before .step .given .1) ∙ c .before .before .before .before .before .before .before .before .expr-at .ensures)), subst (Room (c .before .before .before .before .before .before .before .before .before .before .before .before .before .before .before .before .before .before .before .before .before .before .args .position)) (enum-violations _ (c .before .before .before .before .before .before .before .before .before .before .before .before .before .before .before .before .before .before .before .before .before .before .args .subject) (c .before .before .before .before .before .before .before .before .before .before .before .before .before .before .before .before .before .before .before .before .before .before .pre .1 .1 .1) _ (sym (c .before .before .before .before .before .before .step .given .1) ∙ c .before .before .before .before .before .before .before .before .expr-at .ensures)) (c .before .before .before .before .before .before .before .before .before .before .before .before .before .before .before .before .before .before .before .before .before .before .pre .1 .1 .2))))
+validate-references-requires c κs = (c .before .before .before .before .before .before .before .before .before .before .before .before .before .before .before .before .before .before .before .before .before .before .before .pre .0, (c .before .before .before .before .before .before .before .before .before .before .before .before .before .before .before .before .before .before .before .before .before .before .before .pre .1 .0, ((c .before .before .before .before .before .before .before .before .before .before .before .before .before .before .before .before .before .before .before .before .before .before .before .pre .1 .1 .0, expr-bound 23 _ _ _ (sym (c .before .before .before .before .before .before .before .step .given .1) ∙ c .before .before .before .before .before .before .before .before .before .expr-at .ensures), expr-fits 23 _ _ _ (sym (c .before .before .before .before .before .before .before .step .given .1) ∙ c .before .before .before .before .before .before .before .before .before .expr-at .ensures)), subst (Room (c .before .before .before .before .before .before .before .before .before .before .before .before .before .before .before .before .before .before .before .before .before .before .before .args .position)) (enum-violations _ (c .before .before .before .before .before .before .before .before .before .before .before .before .before .before .before .before .before .before .before .before .before .before .before .args .subject) (c .before .before .before .before .before .before .before .before .before .before .before .before .before .before .before .before .before .before .before .before .before .before .before .pre .1 .1 .1) _ (sym (c .before .before .before .before .before .before .before .step .given .1) ∙ c .before .before .before .before .before .before .before .before .before .expr-at .ensures)) (c .before .before .before .before .before .before .before .before .before .before .before .before .before .before .before .before .before .before .before .before .before .before .before .pre .1 .1 .2))))
 
 enum-told : tie.Need-enum-told
 enum-told c = search needs
@@ -39,7 +39,7 @@ same-length-5 : tie.Need-same-length-5
 same-length-5 c = search needs
 
 returns : tie.Need-returns
-returns c = let w = c .before .before .before .before .before .before .before .before .before .before .validate-references in subst (λ vs. Wrote vs (c .before .before .before .before .before .before .before .before .before .before .before .before .before .before .before .before .before .before .before .before .before .before .before .before .before .before .before .before .before .before .before .before .before .args .out .now) (c .before .before .before .before .before .before .before .before .before .before .before .before .before .before .before .before .before .before .before .before .before .before .before .before .before .before .before .before .before .before .before .before .before .args .position) (w .last .1 .1 .1 .1 .1 .1 .1 .1 .1 .1 .1 .1 .1 .1 .1 .1 .1 .1 .0) (w .result)) (sym (enum-violations _ (c .before .before .before .before .before .before .before .before .before .before .before .before .before .before .before .before .before .before .before .before .before .before .before .before .before .before .before .before .before .before .before .before .before .args .subject) (c .before .before .before .before .before .before .before .before .before .before .before .before .before .before .before .before .before .before .before .before .before .before .before .before .before .before .before .before .before .before .before .before .before .pre .1 .1 .1) _ (sym (c .before .before .before .before .before .before .before .before .before .before .before .before .before .before .before .before .before .step .given .1) ∙ c .before .before .before .before .before .before .before .before .before .before .before .before .before .before .before .before .before .before .before .expr-at .ensures))) (w .ensures)
+returns c = let w = c .before .before .before .before .before .before .before .before .before .before .validate-references in (subst (λ vs. Wrote vs (c .before .before .before .before .before .before .before .before .before .before .before .before .before .before .before .before .before .before .before .before .before .before .before .before .before .before .before .before .before .before .before .before .before .before .args .out .now) (c .before .before .before .before .before .before .before .before .before .before .before .before .before .before .before .before .before .before .before .before .before .before .before .before .before .before .before .before .before .before .before .before .before .before .args .position) (w .last .1 .1 .1 .1 .1 .1 .1 .1 .1 .1 .1 .1 .1 .1 .1 .1 .1 .1 .0) (w .result)) (sym (enum-violations _ (c .before .before .before .before .before .before .before .before .before .before .before .before .before .before .before .before .before .before .before .before .before .before .before .before .before .before .before .before .before .before .before .before .before .before .args .subject) (c .before .before .before .before .before .before .before .before .before .before .before .before .before .before .before .before .before .before .before .before .before .before .before .before .before .before .before .before .before .before .before .before .before .before .pre .1 .1 .1) _ (sym (c .before .before .before .before .before .before .before .before .before .before .before .before .before .before .before .before .before .before .step .given .1) ∙ c .before .before .before .before .before .before .before .before .before .before .before .before .before .before .before .before .before .before .before .before .expr-at .ensures))) (w .ensures .0), w .ensures .1)
 
 returns-2 : tie.Need-returns-2
 returns-2 c = absurd (expr-no _ _ _ (c .before .before .before .before .before .before .before .before .before .before .before .before .before .before .before .before .pre .1 .1 .1 .reads) (sym (c .enum-told .given .1) ∙ c .before .before .expr-at .ensures))

@@ -1,0 +1,54 @@
+-- `report::report_long` meets its contract: what the bytes are refused for, or the report of the bundle that they are.
+use borrow.Author.Needs.{needs}
+use Rattle.report.proofs.report_long.Statement.{statement}
+use Rattle.report.proofs.report_long.Tie as tie
+use Prim.Native.Nat.{ℕ}
+use native.Mathlib.Omega.{arith}
+use lib.ListN.{length-replicate}
+use Rattle.meaning.specs.Due.{reporting}
+use Rattle.bundle.proofs.AnswerLaws.{opened-layout, opened-refused}
+use Rattle.chain.proofs.Called.{turned-down}
+use Rattle.report.proofs.Reporting.{called}
+
+slice-aggregate-open : tie.Need-slice-aggregate-open
+slice-aggregate-open c = search needs
+
+open-requires : tie.Need-open-requires
+open-requires c κs = omega (arith, length-replicate {A = ℕ} 65793 0)
+
+enum-known-opening : tie.Need-enum-known-opening
+enum-known-opening c = search needs
+
+slice-aggregate-report-many : tie.Need-slice-aggregate-report-many
+slice-aggregate-report-many c = search needs
+
+report-many-requires : tie.Need-report-many-requires
+report-many-requires c κs = opened-layout _ _ _ _ (c .before .before .before .before .before .before .«open» .ensures) (c .before .before .before .opening .given .1)
+
+enum-known-opening-2 : tie.Need-enum-known-opening-2
+enum-known-opening-2 c = search needs
+
+same-length : tie.Need-same-length
+same-length c = search needs
+
+returns : tie.Need-returns
+unfolding reporting
+returns c = let o = opened-layout _ _ _ _ (c .before .before .before .before .before .before .before .before .before .«open» .ensures) (c .before .before .before .before .before .before .opening .given .1) in called (o .0) (o .1) (c .before .before .report-many .ensures)
+
+returns-2 : tie.Need-returns-2
+unfolding reporting
+returns-2 c = turned-down _ (opened-refused _ _ _ _ (c .before .before .before .before .«open» .ensures) (c .before .opening2 .given .1) _)
+
+pub report-long-spec : {M : Type 1} → statement M
+report-long-spec =
+    tie.close
+    (tie.spec
+    slice-aggregate-open
+    open-requires
+    enum-known-opening
+    slice-aggregate-report-many
+    report-many-requires
+    enum-known-opening-2
+    same-length
+    returns
+    returns-2)
