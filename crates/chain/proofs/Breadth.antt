@@ -33,9 +33,12 @@ prefix p [] f = inl refl
 prefix p (x ∷ es) f = inr (subst (λ (l : List ℕ). Before (p ++ f ∷ []) l) (append-snoc p f (x ∷ es)) (before-longer (p ++ f ∷ []) es x))
 
 module _ (g : Graph) where
+  pub walk-both : (a b c : ℕ) (ds es : List ℕ) → IsWalk g a ds b → IsWalk g b es c → IsWalk g a (ds ++ es) c
+  walk-both a b c [] es w v = subst (λ (x : ℕ). IsWalk g x es c) (sym w) v
+  walk-both a b c (d ∷ ds) es w v = (w .0, w .1, walk-both (g .to d) b c ds es (w .2) v)
+
   walk-snoc : (a b e : ℕ) (es : List ℕ) → IsWalk g a es b → e < g .count → g .from e ≡ b → IsWalk g a (es ++ e ∷ []) (g .to e)
-  walk-snoc a b e [] w l s = (l, s ∙ sym w, refl)
-  walk-snoc a b e (d ∷ es) w l s = (w .0, w .1, walk-snoc (g .to d) b e es (w .2) l s)
+  walk-snoc a b e es w l s = walk-both a b (g .to e) es (e ∷ []) w (l, s, refl)
 
 module _ (g : Graph) (start : ℕ) (name : ℕ → ℕ) (path : ℕ → List ℕ) (n h e : ℕ) (q : Queue g start name path n h e) where
   -- some edge that is not yet followed, from an entry, gives a walk that is es or comes before es

@@ -2,6 +2,7 @@
 --     prepared                    what `prepare` makes
 --     no-start, no-end            no edge is from the one name, or leads to the other
 --     nowhere, somewhere          what a search between numbers says of the names
+--     all-spent                   and of the names of all its entries, where it fails
 use Prim.Native.Nat.{ℕ, zero, suc, _+_, _*_, _/_, _%_, _≤_, _<_}
 use mathlib.Core.Path.{_≡_, refl, sym, ap, ap₂, _∙_, subst}
 use mathlib.Core.Logic.{⊎-elim, by-cases, _⊎_}
@@ -18,8 +19,8 @@ use Rattle.meaning.proofs.ChainLaws.{firstWalk-no}
 use Rattle.meaning.proofs.Chains.{Renamed, chainOf-map}
 use Rattle.meaning.proofs.Walks.{order}
 use Rattle.chain.specs.Edges.{graphAt, nameAt}
-use Rattle.chain.specs.Index.{Named, Numbering, numbered, Indexed, HasEnds, EndsBelow, Prepared}
-use Rattle.chain.specs.Queue.{Holds, chainBy, chainTo, namesOf, Hit}
+use Rattle.chain.specs.Index.{Named, Numbering, numbered, Indexed, HasEnds, EndsBelow, Prepared, entryName}
+use Rattle.chain.specs.Queue.{Holds, chainBy, chainTo, namesOf, IsEnd, Hit, Spent, Gone}
 use Rattle.chain.proofs.Entries.{name-of}
 use Rattle.chain.proofs.Breadth.{walk-end}
 
@@ -109,12 +110,15 @@ module _ {g : Graph} {count : ℕ} {names table ends first next : List ℕ} {m :
       pub nowhere : chainOf (numbered ends count) a b ≡ none → chainOf g from to ≡ none
       nowhere e = chain-named ∙ ap (Option·map (map f)) e
 
+      -- a number that an edge ends at, or the first
+      end-below : (x : ℕ) → IsEnd (numbered ends count) a x → x < m
+      end-below x =
+          ⊎-elim (λ (p : a ≡ x). omega (arith, na .0))
+          (λ (t : (e : ℕ) × (e < count) × (getD ends (2 * e + 1) 0 ≡ x)). omega (arith, t .2, s .tos (t .0) (t .1) .0))
+
       module _ {queue parents : List ℕ} {h : ℕ} (hit : Hit (numbered ends count) a b queue parents h) where
         pub entry-below : (i : ℕ) → i < h + 1 → getD queue i 0 < m
-        entry-below i l =
-            ⊎-elim (λ (p : a ≡ getD queue i 0). omega (arith, na .0))
-            (λ (t : (e : ℕ) × (e < count) × (getD ends (2 * e + 1) 0 ≡ getD queue i 0)). omega (arith, t .2, s .tos (t .0) (t .1) .0))
-            (hit .ends i l)
+        entry-below i l = end-below (getD queue i 0) (hit .ends i l)
 
         pub somewhere : h < length queue → chainOf g from to ≡ some (chainTo (namesOf names queue) parents h ++ to ∷ [])
         unfolding chainBy
@@ -131,3 +135,8 @@ module _ {g : Graph} {count : ℕ} {names table ends first next : List ℕ} {m :
             entries (suc k) (suc i) l =
                 map-append f (chainBy queue parents k (getD parents (suc i) 0)) (getD queue (suc i) 0 ∷ [])
                 ∙ ap₂ (λ (x : List ℕ) (y : ℕ). x ++ y ∷ []) (entries k (getD parents (suc i) 0) (omega (arith, hit .rising (suc i) (omega arith) l))) (entry (suc i) l)
+
+    -- a search between numbers that has failed
+    module _ {a b from to : ℕ} (na : Named names m a from) (nb : Named names m b to) {queue : List ℕ} {n : ℕ} (gone : Gone (numbered ends count) a b queue n) where
+      pub all-spent : Spent g (entryName names queue) n to
+      all-spent i l = nowhere (end-below na nb (getD queue i 0) (gone .ends i l), refl) nb (gone .spent i l)

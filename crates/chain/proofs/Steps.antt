@@ -6,7 +6,7 @@
 --     searching-next                 on to the next entry
 --     searching-room                 a new name leaves room for its entry
 --     searching-ends                 what an entry's name is
---     searching-hit, -none           what the search finds
+--     searching-hit, -gone           what the search finds
 use Prim.Native.Nat.{ℕ, _+_, _≤_, _<_}
 use mathlib.Core.Path.{_≡_, refl, sym, ap, ap₂, _∙_, subst}
 use mathlib.Core.Logic.{⊎-elim}
@@ -17,11 +17,11 @@ use native.Mathlib.Omega.{arith}
 use lib.ListN.{length, length-set, getD, set}
 use lib.Seq.{getD-set-same, getD-set-other}
 use Rattle.meaning.specs.Chain.{Graph, namesOn, firstWalk, chainOf}
-use Rattle.chain.specs.Queue.{Queue, chainBy, chainTo, Rising, Holds, Added, kept, added, Searching, IsEnd, Hit}
+use Rattle.chain.specs.Queue.{Queue, chainBy, chainTo, Rising, Holds, Added, kept, added, Searching, IsEnd, Hit, Spent, Gone}
 use Rattle.chain.proofs.Put.{put, put-here, put-below, put-set, below-one-more}
 use Rattle.chain.proofs.Entries.{chain-link, chain-same}
 use Rattle.meaning.proofs.ChainLaws.{firstWalk-is, firstWalk-no}
-use Rattle.chain.proofs.Breadth.{walk-end, start-queue, skip, known, push, next-head, room, first-found, none-found}
+use Rattle.chain.proofs.Breadth.{walk-both, walk-end, start-queue, skip, known, push, next-head, room, first-found, none-found}
 
 module _ (g : Graph) (start : ℕ) where
   names-snoc : (es : List ℕ) (e : ℕ) → namesOn g start (es ++ e ∷ []) ≡ namesOn g start es ++ g .to e ∷ []
@@ -62,10 +62,19 @@ module _ (g : Graph) (start to : ℕ) (names parents : List ℕ) (n h e : ℕ) (
   pub searching-ends : (i : ℕ) → i < n → IsEnd g start (getD names i 0)
   searching-ends i l = walk-end g start (getD names i 0) (s .path i) (s .queue .walks i l)
 
-  pub searching-none : n ≤ h → chainOf g start to ≡ none
+  -- from no entry a walk leads to `to`
+  spent : n ≤ h → Spent g (λ i. getD names i 0) n to
   unfolding chainOf
-  searching-none l =
-      rw (firstWalk-no g start to (none-found g start _ (s .path) n h e (s .queue) l to (s .absent)))
+  spent l i k =
+      rw (firstWalk-no g (getD names i 0) to (λ es w.
+      none-found g start _ (s .path) n h e (s .queue) l to (s .absent) (s .path i ++ es) (walk-both g start (getD names i 0) to (s .path i) es (s .queue .walks i k) w)))
+
+  pub searching-gone : n ≤ h → Gone g start to names n
+  searching-gone l = record {
+    none = subst (λ (x : ℕ). chainOf g x to ≡ none) (sym searching-first) (spent l 0 (s .queue .root .0));
+    spent = spent l;
+    ends = searching-ends;
+  }
 
   module _ (l : h < n) where
     pub searching-skip : (k : ℕ) → e ≤ k → ((f : ℕ) → e ≤ f → f < k → f < g .count → g .from f ≡ getD names h 0 → ⊥)

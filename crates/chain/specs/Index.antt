@@ -72,3 +72,7 @@ pub record Prepared (g : Graph) (count : ℕ) (names table ends first next : Lis
 pub record Workspace (count : ℕ) (queue parents : List ℕ) : Type 0 where
   pub for-queue : count < length queue
   pub for-parents : count < length parents
+
+-- the name of entry i of a queue of numbers
+abbrev pub entryName : List ℕ → List ℕ → ℕ → ℕ
+entryName names queue i = getD names (getD queue i 0) 0

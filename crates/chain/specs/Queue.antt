@@ -82,6 +82,16 @@ pub record Hit (g : Graph) (start to : ℕ) (names parents : List ℕ) (h : ℕ)
   pub ends : (i : ℕ) → i < h + 1 → IsEnd g start (getD names i 0)
   pub answer : chainOf g start to ≡ some (chainTo names parents h ++ to ∷ [])
 
+-- from none of the first n entries a chain leads to `to`
+abbrev pub Spent : Graph → (ℕ → ℕ) → ℕ → ℕ → Type 0
+Spent g name n to = (i : ℕ) → i < n → chainOf g (name i) to ≡ none
+
+-- a search from `start` to `to` has gone through all of its n entries
+pub record Gone (g : Graph) (start to : ℕ) (names : List ℕ) (n : ℕ) : Type 0 where
+  pub none : chainOf g start to ≡ none
+  pub spent : Spent g (λ i. getD names i 0) n to
+  pub ends : (i : ℕ) → i < n → IsEnd g start (getD names i 0)
+
 -- all edges from entry h are followed, and the search goes on, or its end is reached from there
 abbrev pub AfterFollow : Graph → ℕ → ℕ → ℕ → List ℕ → List ℕ → Followed → Type 0
 AfterFollow g start to h names parents (All n) = Searching g start to names parents n (h + 1) 0
@@ -90,9 +100,14 @@ AfterFollow g start to h names parents Reached = Hit g start to names parents h
 -- the search ends at the last of k entries, from which `to` is reached, or there is no chain
 abbrev pub AfterSearch : Graph → ℕ → ℕ → List ℕ → List ℕ → Explored → Type 0
 AfterSearch g start to names parents (From k) = (0 < k) × Hit g start to names parents (k - 1)
-AfterSearch g start to names parents (Nowhere n) = chainOf g start to ≡ none
+AfterSearch g start to names parents (Nowhere n) = Gone g start to names n
 
 -- the members after the edges from an entry are followed
 abbrev pub MembersAfter : List ℕ → List ℕ → Followed → Type 0
 MembersAfter queue places (All n) = Members queue places n
 MembersAfter queue places Reached = Unit {0}
+
+-- and after a search
+abbrev pub MembersLeft : List ℕ → List ℕ → Explored → Type 0
+MembersLeft queue places (From k) = Unit {0}
+MembersLeft queue places (Nowhere n) = Members queue places n

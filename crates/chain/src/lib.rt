@@ -14,8 +14,8 @@ ghost use Rattle.bundle.specs.Opened.{answerMeant};
 ghost use Rattle.meaning.specs.Due.{chainNames, chaining};
 ghost use Rattle.chain.specs.Found.{Answers, foundOf};
 ghost use Rattle.chain.specs.Members.{Members, PlaceOf, grown, Pushed, Entered};
-ghost use Rattle.chain.specs.Index.{Numbering, numbered, Linked, Indexed, HasEnds, EndsBelow, Room, Prepared, Workspace};
-ghost use Rattle.chain.specs.Queue.{Holds, Added, Rising, chainTo, namesOf, Searching, AfterFollow, AfterSearch, MembersAfter};
+ghost use Rattle.chain.specs.Index.{Numbering, numbered, Linked, Indexed, HasEnds, EndsBelow, Room, Prepared, Workspace, entryName};
+ghost use Rattle.chain.specs.Queue.{Holds, Added, Rising, chainTo, namesOf, Searching, AfterFollow, AfterSearch, Spent, MembersAfter, MembersLeft};
 
 // The answer to a search.
 pub enum Found {
@@ -256,6 +256,7 @@ fn explore(
     requires { ⌜ Searching (numbered (now ends) count) (getD (now queue) 0 0) to (now queue) (now parents) 1 0 0 ⌝ }
     requires { ⌜ (getD (now queue) 0 0 < length (now first)) × Members (now queue) (now places) 1 ⌝ }
     ensures { λ r. ⌜ AfterSearch (numbered (now (ends .entry)) count) (getD (now (queue .entry)) 0 0) to (now (queue .exit)) (now (parents .exit)) r ⌝ }
+    ensures { λ r. ⌜ MembersLeft (now (queue .exit)) (now (places .exit)) r ⌝ }
 {
     let mut n = 1;
     let mut head = 0;
@@ -299,6 +300,7 @@ fn reach(
     requires { ⌜ Indexed (numbered (now ends) count) 0 (now first) (now next) ⌝ }
     requires { ⌜ (from < length (now first)) × (from ≡ to → ⊥) × Workspace count (now queue) (now parents) ⌝ }
     ensures { λ r. ⌜ AfterSearch (numbered (now (ends .entry)) count) from to (now (queue .exit)) (now (parents .exit)) r ⌝ }
+    ensures { λ r. ⌜ MembersLeft (now (queue .exit)) (now (places .exit)) r ⌝ }
 {
     push(queue, places, 0, from);
     explore(ends, first, next, count, to, queue, parents, places)
@@ -371,7 +373,9 @@ fn alone(name: u16, list: &mut [u16]) -> Found
 }
 
 // The chain from `from` to `to` over `count` edges that are prepared, with `m` names, into the first places of `list`.
-// What the queue, the parents and the places hold before is free.
+// From the first `spent` entries of the queue nothing leads to `to`: a search that fails leaves all its entries so, and the next one
+// to the same name ends at once where it starts at one of them. With no such entries, what the queue, the parents and the places hold
+// before is free.
 pub fn search(
     names: &[u16],
     table: &[u16],
@@ -385,11 +389,13 @@ pub fn search(
     queue: &mut [u16],
     parents: &mut [u16],
     places: &mut [u16],
+    spent: &mut usize,
     list: &mut [u16],
 ) -> Found
     requires { ⌜ ((g : Graph) × Prepared g count (now names) (now table) (now ends) (now first) (now next) m) ⌝ }
-    requires { ⌜ Workspace count (now queue) (now parents) ⌝ }
-    ensures { λ r. ⌜ ((g : Graph) → Prepared g count (now (names .entry)) (now (table .entry)) (now (ends .entry)) (now (first .entry)) (now (next .entry)) m → Answers (chainOf g from to) (now (list .entry)) (now (list .exit)) r) ⌝ }
+    requires { ⌜ Workspace count (now queue) (now parents) × Members (now queue) (now places) (now spent) ⌝ }
+    ensures { λ r. ⌜ ((g : Graph) → Prepared g count (now (names .entry)) (now (table .entry)) (now (ends .entry)) (now (first .entry)) (now (next .entry)) m → Spent g (entryName (now (names .entry)) (now (queue .entry))) (now (spent .entry)) to → Answers (chainOf g from to) (now (list .entry)) (now (list .exit)) r × Spent g (entryName (now (names .entry)) (now (queue .exit))) (now (spent .exit)) to) ⌝ }
+    ensures { λ _. ⌜ Members (now (queue .exit)) (now (places .exit)) (now (spent .exit)) ⌝ }
 {
     if from == to {
         return alone(from, list);
@@ -402,6 +408,11 @@ pub fn search(
     if b == m {
         return Found::Missing;
     }
+    let known = *spent;
+    if place_of(queue, places, known, a as u16) < known {
+        return Found::Missing;
+    }
+    *spent = 0;
     let end = reach(
         ends,
         first,
@@ -413,10 +424,13 @@ pub fn search(
         parents,
         places,
     );
-    let Explored::From(followed) = end else {
-        return Found::Missing;
-    };
-    deliver(names, queue, parents, followed - 1, to, list)
+    match end {
+        Explored::From(followed) => deliver(names, queue, parents, followed - 1, to, list),
+        Explored::Nowhere(n) => {
+            *spent = n;
+            Found::Missing
+        }
+    }
 }
 
 // The chain over `count` edges that stand in the bytes from `at` on, with lists that have room for them. What these hold before is free.
@@ -442,6 +456,7 @@ fn find_with(
     ensures { λ r. ⌜ Answers (chainOf (graphAt (now (bytes .entry)) at count) from to) (now (list .entry)) (now (list .exit)) r ⌝ }
 {
     let m = prepare(bytes, at, count, names, table, ends, first, next);
+    let mut spent = 0;
     search(
         names,
         table,
@@ -455,6 +470,7 @@ fn find_with(
         queue,
         parents,
         places,
+        &mut spent,
         list,
     )
 }

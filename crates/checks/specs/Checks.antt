@@ -16,7 +16,9 @@ use Rattle.meaning.specs.Violations.{isLaterField, typeNeedsFieldRefForLayout, 
 use Rattle.bundle.specs.declared.Layout.{Layout}
 use Rattle.bundle.specs.Definitions.{bundleOf, EdgesFrom}
 use Rattle.chain.specs.Edges.{graphAt}
-use Rattle.chain.specs.Index.{Prepared}
+use Rattle.chain.specs.Index.{Prepared, entryName}
+use Rattle.chain.specs.Members.{Members}
+use Rattle.chain.specs.Queue.{Spent}
 use Rattle.sizes.specs.Paths.{Fit}
 use Rattle.sizes.specs.Scan.{pathAt, referencesFrom, Fits}
 use Rattle.sizes.specs.declared.Found as found
@@ -86,6 +88,10 @@ pub record GraphOf (s : List ℕ) (l : Layout) : Type 0 where
 -- the edges of the bundle are prepared for searches
 abbrev pub EdgesPrepared : List ℕ → Layout → List ℕ → List ℕ → List ℕ → List ℕ → List ℕ → ℕ → Type 0
 EdgesPrepared s l names table ends first links m = Prepared (graphAt s (l .«edges_at») (l .edges)) (l .edges) names table ends first links m
+
+-- what searches to the name x leave: from none of the first n entries of the queue a chain leads to it
+abbrev pub Searched : List ℕ → Layout → List ℕ → List ℕ → List ℕ → ℕ → ℕ → Type 0
+Searched s l names queue marks n x = Members queue marks n × Spent (graphAt s (l .«edges_at») (l .edges)) (entryName names queue) n x
 
 -- the first reference from `at` to `end` is at p, and those behind it start at `after`
 pub record ReferenceIs (s : List ℕ) (at end p after : ℕ) : Type 0 where

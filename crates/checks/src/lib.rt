@@ -25,7 +25,7 @@ ghost use Rattle.chain.specs.Index.{Workspace};
 ghost use Rattle.sizes.specs.Paths.{Fit};
 ghost use Rattle.sizes.specs.Scan.{pathAt, referencesFrom, Fits};
 ghost use Rattle.sizes.specs.Tests.{Acyclic, Kept};
-ghost use Rattle.checks.specs.Checks.{targetAt, typePart, PartOf, Checked, GraphOf, EdgesPrepared, Referred, isForward, Forwarded, ForwardIn};
+ghost use Rattle.checks.specs.Checks.{targetAt, typePart, PartOf, Checked, GraphOf, EdgesPrepared, Searched, Referred, isForward, Forwarded, ForwardIn};
 
 // What a check finds: nothing, or a violation by its type. The chain stands beside it in a lent list.
 pub enum Check {
@@ -70,11 +70,12 @@ fn find_layout_dependency_chain(
     queue: &mut [u16],
     parents: &mut [u16],
     marks: &mut [u16],
+    spent: &mut usize,
     list: &mut [u16],
 ) -> Found
     requires { ⌜ EdgesPrepared (now s) layout (now names) (now table) (now ends) (now first) (now links) m × Workspace (layout .edges) (now queue) (now parents) ⌝ }
-    requires { ⌜ GraphOf (now s) layout ⌝ }
-    ensures { λ r. ⌜ Answers (findLayoutDependencyChain (bundleOf (now (s .entry))) from to) (now (list .entry)) (now (list .exit)) r ⌝ }
+    requires { ⌜ GraphOf (now s) layout × Searched (now s) layout (now names) (now queue) (now marks) (now spent) to ⌝ }
+    ensures { λ r. ⌜ Answers (findLayoutDependencyChain (bundleOf (now (s .entry))) from to) (now (list .entry)) (now (list .exit)) r × Searched (now (s .entry)) layout (now (names .entry)) (now (queue .exit)) (now (marks .exit)) (now (spent .exit)) to ⌝ }
 {
     chain::search(
         names,
@@ -89,6 +90,7 @@ fn find_layout_dependency_chain(
         queue,
         parents,
         marks,
+        spent,
         list,
     )
 }
@@ -171,12 +173,13 @@ pub fn check_enum_tag_layout_cycle(
     queue: &mut [u16],
     parents: &mut [u16],
     marks: &mut [u16],
+    spent: &mut usize,
     list: &mut [u16],
 ) -> Check
     requires { ⌜ EdgesPrepared (now s) layout (now names) (now table) (now ends) (now first) (now links) m × Workspace (layout .edges) (now queue) (now parents) ⌝ }
     requires { ⌜ LayoutOf (now s) layout (now places) × Acyclic (now s) × Kept (now s) false (now kept) ⌝ }
-    requires { ⌜ Fit (now s) path × (1025 ≤ length (now list)) ⌝ }
-    ensures { λ r. ⌜ Checked (now (s .entry)) name (now (list .exit)) r (λ i. checkEnumTagLayoutCycle (bundleOf (now (s .entry))) i name (pathAt (now (s .entry)) path)) × Kept (now (s .entry)) false (now (kept .exit)) ⌝ }
+    requires { ⌜ Fit (now s) path × (1025 ≤ length (now list)) × Searched (now s) layout (now names) (now queue) (now marks) (now spent) name ⌝ }
+    ensures { λ r. ⌜ Checked (now (s .entry)) name (now (list .exit)) r (λ i. checkEnumTagLayoutCycle (bundleOf (now (s .entry))) i name (pathAt (now (s .entry)) path)) × Kept (now (s .entry)) false (now (kept .exit)) × Searched (now (s .entry)) layout (now (names .entry)) (now (queue .exit)) (now (marks .exit)) (now (spent .exit)) name ⌝ }
 {
     let count = layout.definitions;
     let target = sizes::parse_field_reference(s, path, layout.current);
@@ -208,6 +211,7 @@ pub fn check_enum_tag_layout_cycle(
         queue,
         parents,
         marks,
+        spent,
         list,
     );
     match found {
@@ -231,11 +235,12 @@ pub fn check_array_size_layout_cycle(
     queue: &mut [u16],
     parents: &mut [u16],
     marks: &mut [u16],
+    spent: &mut usize,
     list: &mut [u16],
 ) -> Check
     requires { ⌜ EdgesPrepared (now s) layout (now names) (now table) (now ends) (now first) (now links) m × Workspace (layout .edges) (now queue) (now parents) ⌝ }
-    requires { ⌜ GraphOf (now s) layout × Fit (now s) path × (1025 ≤ length (now list)) ⌝ }
-    ensures { λ r. ⌜ Checked (now (s .entry)) name (now (list .exit)) r (λ i. checkArraySizeLayoutCycle (bundleOf (now (s .entry))) i name (pathAt (now (s .entry)) path)) ⌝ }
+    requires { ⌜ GraphOf (now s) layout × Fit (now s) path × (1025 ≤ length (now list)) × Searched (now s) layout (now names) (now queue) (now marks) (now spent) name ⌝ }
+    ensures { λ r. ⌜ Checked (now (s .entry)) name (now (list .exit)) r (λ i. checkArraySizeLayoutCycle (bundleOf (now (s .entry))) i name (pathAt (now (s .entry)) path)) × Searched (now (s .entry)) layout (now (names .entry)) (now (queue .exit)) (now (marks .exit)) (now (spent .exit)) name ⌝ }
 {
     let target = sizes::parse_field_reference(s, path, layout.current);
     let found = find_layout_dependency_chain(
@@ -252,6 +257,7 @@ pub fn check_array_size_layout_cycle(
         queue,
         parents,
         marks,
+        spent,
         list,
     );
     match found {

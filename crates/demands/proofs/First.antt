@@ -45,7 +45,7 @@ module _ (f : Bundle → List ℕ) where
 
   -- for accepted bytes: the result for their tree
   due-accepted : (s : List ℕ) (b : Accepted s) → due s ≡ result (f (b .tree))
-  due-accepted s b = subst (λ t. due t ≡ result (f (b .tree))) (b .encoded) (accepted-due (λ b. result (f b)) (b .tree) (b .within) (b .straight))
+  due-accepted s b = subst (λ t. due t ≡ result (f (b .tree))) (b .encoded) (accepted-due (λ b. result (f b)) (b .tree) (b .within) (b .no-circle))
 
   -- for other bytes: the one number
   due-refused : (s : List ℕ) → Bytes s → (Accepted s → ⊥) → due s ≡ refusal (numberOf (readBundle s))

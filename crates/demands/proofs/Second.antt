@@ -27,7 +27,7 @@ first-of b from to names e =
 pub demand-2 : Demand2
 unfolding reporting report findLayoutDependencyChain
 demand-2 = record {
-  report = λ s b. subst (λ t. reporting t ≡ result (report (b .tree))) (b .encoded) (accepted-due (λ b. result (report b)) (b .tree) (b .within) (b .straight));
+  report = λ s b. subst (λ t. reporting t ≡ result (report (b .tree))) (b .encoded) (accepted-due (λ b. result (report b)) (b .tree) (b .within) (b .no-circle));
   no-chain = λ b from to. chain-none (graph b) from to;
   chain = first-of;
 }

@@ -63,12 +63,12 @@ chain-fits from to s bytes names = go (readBundle s) refl
     found b few none e p = let q : names ≡ [] = cc in omega (arith, ap length q)
     found b few (some ns) e p = let q : names ≡ ns = cc in omega (arith, ap length q, chain-length (graph b) from to ns e)
 
-    straight : (b : Bundle) → length (b .edges) ≤ 1024 → (t : Bool) → cond t (refusal 8) (result (chainNames (findLayoutDependencyChain b from to))) ≡ result names → length names ≤ 1025
-    straight b few true p = let z : _≡_ {A = ℕ} 0 1 = cc in absurd (omega arith)
-    straight b few false p = found b few (findLayoutDependencyChain b from to) refl p
+    no-circle : (b : Bundle) → length (b .edges) ≤ 1024 → (t : Bool) → cond t (refusal 8) (result (chainNames (findLayoutDependencyChain b from to))) ≡ result names → length names ≤ 1025
+    no-circle b few true p = let z : _≡_ {A = ℕ} 0 1 = cc in absurd (omega arith)
+    no-circle b few false p = found b few (findLayoutDependencyChain b from to) refl p
 
     go : (x : Read Bundle) → readBundle s ≡ x → dueOf (λ b. result (chainNames (findLayoutDependencyChain b from to))) x ≡ result names → length names ≤ 1025
-    go (ok b n) e p = straight b (bundle-within s bytes b n e .edges .0) (circles b) p
+    go (ok b n) e p = no-circle b (bundle-within s bytes b n e .edges .0) (circles b) p
     go (refused k) e p = let z : _≡_ {A = ℕ} 0 1 = cc in absurd (omega arith)
 
 -- so a chain is refused only where the bundle is

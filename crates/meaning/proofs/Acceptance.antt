@@ -24,19 +24,19 @@ accepted-due f b o c = rw (bundle-read-back b o, c)
 
 -- bytes that are read as a tree that does not circle are accepted
 pub accepted-of : (s : List ℕ) → Bytes s → (b : Bundle) (n : ℕ) → readBundle s ≡ ok b n → circles b ≡ false → Accepted s
-accepted-of s bytes b n e c = record { tree = b; within = bundle-within s bytes b n e; straight = c; encoded = bundle-law s bytes b n e }
+accepted-of s bytes b n e c = record { tree = b; within = bundle-within s bytes b n e; no-circle = c; encoded = bundle-law s bytes b n e }
 
 pub accepted-iff : (s : List ℕ) → Bytes s → (acceptance s ≡ result []) ↔ Accepted s
 unfolding acceptance onBundle dueOf
 accepted-iff s bytes = (there (readBundle s) refl, back)
   where
-    straight : (b : Bundle) (t : Bool) → circles b ≡ t → cond t (refusal 8) (result []) ≡ result [] → circles b ≡ false
-    straight b true c e = let z : _≡_ {A = ℕ} 0 1 = cc in absurd (omega arith)
-    straight b false c e = c
+    no-circle : (b : Bundle) (t : Bool) → circles b ≡ t → cond t (refusal 8) (result []) ≡ result [] → circles b ≡ false
+    no-circle b true c e = let z : _≡_ {A = ℕ} 0 1 = cc in absurd (omega arith)
+    no-circle b false c e = c
 
     there : (x : Read Bundle) → readBundle s ≡ x → dueOf (λ b. result []) x ≡ result [] → Accepted s
-    there (ok b n) r e = accepted-of s bytes b n r (straight b (circles b) refl e)
+    there (ok b n) r e = accepted-of s bytes b n r (no-circle b (circles b) refl e)
     there (refused k) r e = let z : _≡_ {A = ℕ} 0 1 = cc in absurd (omega arith)
 
     back : Accepted s → dueOf (λ b. result []) (readBundle s) ≡ result []
-    back a = ap (λ t. dueOf (λ b. result []) (readBundle t)) (sym (a .encoded)) ∙ accepted-due (λ b. result []) (a .tree) (a .within) (a .straight)
+    back a = ap (λ t. dueOf (λ b. result []) (readBundle t)) (sym (a .encoded)) ∙ accepted-due (λ b. result []) (a .tree) (a .within) (a .no-circle)

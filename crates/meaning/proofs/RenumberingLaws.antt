@@ -40,7 +40,7 @@ reportOf a = reportItems (violations (a .tree))
 -- What is due for accepted bytes.
 
 due-at : (f : Bundle → Outcome) {s : List ℕ} (a : Accepted s) → onBundle f s ≡ f (a .tree)
-due-at f a = ap (onBundle f) (sym (a .encoded)) ∙ accepted-due f (a .tree) (a .within) (a .straight)
+due-at f a = ap (onBundle f) (sym (a .encoded)) ∙ accepted-due f (a .tree) (a .within) (a .no-circle)
 
 pub reporting-due : {s : List ℕ} (a : Accepted s) → reporting s ≡ result (bytes (reportOf a))
 unfolding reporting report
@@ -75,7 +75,7 @@ mapped-accepted : (f : ℕ → ℕ) {s : List ℕ} (a : Accepted s) → BundleOk
 mapped-accepted f a ok same = record {
   tree = mapBundle f (a .tree);
   within = ok;
-  straight = same ∙ a .straight;
+  no-circle = same ∙ a .no-circle;
   encoded = sym (bundle-map-bytes f (a .tree) (a .within)) ∙ ap (mapBytes body f) (a .encoded);
 }
 

@@ -54,5 +54,5 @@ acceptance s = onBundle (λ b. result []) s
 pub record Accepted (s : List ℕ) : Type 0 where
   pub tree : Bundle
   pub within : BundleOk tree
-  pub straight : circles tree ≡ false
+  pub no-circle : circles tree ≡ false
   pub encoded : bundleBytes tree ≡ s

@@ -22,7 +22,7 @@ ghost use Rattle.sizes.specs.Scan.{pathAt, pathsFrom, referencesFrom, Fits};
 ghost use Rattle.sizes.specs.Tests.{Acyclic, Kept};
 ghost use Rattle.fields.specs.Shapes.{StructAt, EnumAt, ArrayAt};
 ghost use Rattle.violation.specs.Records.{padded};
-ghost use Rattle.checks.specs.Checks.{violationOf, Fitting, Checked, EdgesPrepared};
+ghost use Rattle.checks.specs.Checks.{violationOf, Fitting, Checked, EdgesPrepared, Searched};
 ghost use Rattle.validate.specs.Validating.{Recorded, Wrote, Room, recordWith, pathOfTwo, checkReference, violationsOf, violationsAt};
 
 // How far a report is written: the place behind it, and the count of its violations.
@@ -157,12 +157,13 @@ fn check_reference(
     queue: &mut [u16],
     parents: &mut [u16],
     marks: &mut [u16],
+    spent: &mut usize,
     list: &mut [u16],
 ) -> Check
     requires { ⌜ EdgesPrepared (now s) layout (now names) (now table) (now ends) (now first) (now links) m × Workspace (layout .edges) (now queue) (now parents) ⌝ }
     requires { ⌜ LayoutOf (now s) layout (now places) × Acyclic (now s) × Kept (now s) false (now kept) ⌝ }
-    requires { ⌜ Fit (now s) path × (1025 ≤ length (now list)) ⌝ }
-    ensures { λ r. ⌜ Checked (now (s .entry)) name (now (list .exit)) r (λ i. checkReference tag (bundleOf (now (s .entry))) i name (pathAt (now (s .entry)) path)) × Kept (now (s .entry)) false (now (kept .exit)) ⌝ }
+    requires { ⌜ Fit (now s) path × (1025 ≤ length (now list)) × Searched (now s) layout (now names) (now queue) (now marks) (now spent) name ⌝ }
+    ensures { λ r. ⌜ Checked (now (s .entry)) name (now (list .exit)) r (λ i. checkReference tag (bundleOf (now (s .entry))) i name (pathAt (now (s .entry)) path)) × Kept (now (s .entry)) false (now (kept .exit)) × Searched (now (s .entry)) layout (now (names .entry)) (now (queue .exit)) (now (marks .exit)) (now (spent .exit)) name ⌝ }
 {
     if tag {
         return checks::check_enum_tag_layout_cycle(
@@ -181,6 +182,7 @@ fn check_reference(
             queue,
             parents,
             marks,
+            spent,
             list,
         );
     }
@@ -198,11 +200,13 @@ fn check_reference(
         queue,
         parents,
         marks,
+        spent,
         list,
     )
 }
 
-// Checks each reference from `at` to `end`, and writes what is found.
+// Checks each reference from `at` to `end`, and writes what is found. All searches here are to one name, so that each may use what the
+// one before it has left.
 fn validate_references(
     s: &[u8],
     places: &[u16],
@@ -233,6 +237,7 @@ fn validate_references(
 {
     let i = subject.number;
     let name = subject.name;
+    let mut spent = 0;
     let mut next = at;
     let mut reached = position;
     while next < end {
@@ -257,6 +262,7 @@ fn validate_references(
             queue,
             parents,
             marks,
+            &mut spent,
             list,
         );
         match check {

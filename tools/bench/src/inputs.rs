@@ -272,42 +272,72 @@ fn line(bytes: usize) -> Bundle {
     }
 }
 
-/// A sum of references to fields of the first names of the line.
-fn sum(count: usize, first: usize) -> Expr {
+/// A sum of references to fields; `start` gives the name that each leads to.
+fn sum(count: usize, first: usize, start: &dyn Fn(usize) -> Name) -> Expr {
     if count == 1 {
-        return field_of(1 + (first % 16) as Name, COUNT);
+        return field_of(start(first), COUNT);
     }
     let half = count / 2;
-    let left = Box::new(sum(half, first));
-    Expr::Binary(ADD, left, Box::new(sum(count - half, first + half)))
+    let left = Box::new(sum(half, first, start));
+    let right = Box::new(sum(count - half, first + half, start));
+    Expr::Binary(ADD, left, right)
 }
 
-fn sums(bytes: usize, name: Name) -> Bundle {
-    let mut bundle = line(bytes);
-    fill(&mut bundle, bytes, &|_| Definition {
+/// One of the first names of the line.
+fn early(number: usize) -> Name {
+    1 + (number % 16) as Name
+}
+
+/// Adds arrays of this name, with sums of references, up to so many bytes.
+fn add_sums(bundle: &mut Bundle, bytes: usize, name: Name, start: &dyn Fn(usize) -> Name) {
+    fill(bundle, bytes, &|_| Definition {
         name,
-        body: array(sum(128, 0), U8),
+        body: array(sum(128, 0, start), U8),
     });
-    bundle
 }
 
 /// Arrays under the name at the end of the line: every search finds a chain of
 /// nearly all names.
 pub fn long_chains(bytes: usize) -> Bundle {
     let last = (bytes * EDGE_LIMIT / BYTE_LIMIT) as Name + 1;
-    sums(bytes, last)
+    let mut bundle = line(bytes);
+    add_sums(&mut bundle, bytes, last, &early);
+    bundle
 }
 
-/// Arrays under a name that has an edge, but that no edge leads to: every search
-/// goes through the whole line and fails.
-pub fn failing_searches(bytes: usize) -> Bundle {
-    let name = 50_000;
-    let mut bundle = sums(bytes, name);
-    let apart = Edge {
-        from: name,
-        to: name + 1,
+/// A name that has an edge, but that no edge leads to.
+const UNREACHED: Name = 50_000;
+
+fn add_unreached(bundle: &mut Bundle) {
+    *bundle.edges.last_mut().expect("a line has edges") = Edge {
+        from: UNREACHED,
+        to: UNREACHED + 1,
         kind: 0,
     };
-    *bundle.edges.last_mut().expect("a line has edges") = apart;
+}
+
+/// Arrays under a name that no edge leads to: every search would go through the
+/// whole line and fail.
+pub fn failing_searches(bytes: usize) -> Bundle {
+    let mut bundle = line(bytes);
+    add_unreached(&mut bundle);
+    add_sums(&mut bundle, bytes, UNREACHED, &early);
+    bundle
+}
+
+/// The same over two lines, from one and the other in turn: what one search has
+/// gone through says nothing of the next.
+pub fn failing_in_turn(bytes: usize) -> Bundle {
+    const APART: Name = 20_000;
+    let mut bundle = line(bytes);
+    let half = bundle.edges.len() / 2;
+    for edge in &mut bundle.edges[half..] {
+        edge.from += APART;
+        edge.to += APART;
+    }
+    add_unreached(&mut bundle);
+    let second = APART + half as Name;
+    let start = |number: usize| early(number / 2) + (number % 2) as Name * second;
+    add_sums(&mut bundle, bytes, UNREACHED, &start);
     bundle
 }

@@ -20,12 +20,13 @@ const STEP_LIMIT: u64 = 1 << 35;
 /// With `--quick`, cases that take the original some seconds are left out too.
 const QUICK_STEP_LIMIT: u64 = 4_000_000_000;
 
-const WORST: [(&str, Worst); 5] = [
+const WORST: [(&str, Worst); 6] = [
     ("deep nesting", inputs::deep_nesting),
     ("shared definitions, 12 levels", inputs::shared_some),
     ("shared definitions, 150 levels", inputs::shared_much),
     ("references with long chains", inputs::long_chains),
     ("searches that fail", inputs::failing_searches),
+    ("searches that fail, in turn", inputs::failing_in_turn),
 ];
 
 const USAGE: &str = "usage:
@@ -166,7 +167,7 @@ fn report_cells(bundle: &Bundle, limit: u64) -> (Vec<String>, bool) {
 
 fn print_growth() {
     println!("Growth of the library's report from an eighth of a worst case to the whole. Time in");
-    println!("step with the bytes gives 8 in the column `time`. The last two cases have more");
+    println!("step with the bytes gives 8 in the column `time`. The last three cases have more");
     println!("references and more edges at once: searches that go over all edges one by one give");
     println!("64, and so does the report of the long chains, whose growth is the last column.");
     println!();

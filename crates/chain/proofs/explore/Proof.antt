@@ -11,7 +11,7 @@ use Rattle.chain.specs.Queue.{Searching, MembersAfter}
 use Rattle.chain.specs.declared.Followed.{Followed}
 use Rattle.chain.specs.declared.Followed.the-variants.{All}
 use Rattle.chain.proofs.After.{restart, reached, all}
-use Rattle.chain.proofs.Steps.{searching-none, searching-ends}
+use Rattle.chain.proofs.Steps.{searching-gone, searching-ends}
 use Rattle.chain.proofs.Links.{linked}
 use native.Mathlib.Omega.{arith}
 use borrow.Author.Needs.{needs}
@@ -89,7 +89,7 @@ same-length-3 : tie.Need-same-length-3 Inv-loop μ-loop
 same-length-3 c = search needs
 
 returns : tie.Need-returns Inv-loop μ-loop
-returns c = reached (c .before .before .before .before .before .before .before .before .before .before .before .before .before .before .before .loop .inv .0) _ refl (c .enum-told .given .1) (c .before .before .before .before .before .before .before .before .follow .ensures .0)
+returns c = (reached (c .before .before .before .before .before .before .before .before .before .before .before .before .before .before .before .loop .inv .0) _ refl (c .enum-told .given .1) (c .before .before .before .before .before .before .before .before .follow .ensures .0), tt)
 
 add-head : tie.Need-add-head Inv-loop μ-loop
 add-head c = search needs
@@ -118,7 +118,7 @@ same-length-6 : tie.Need-same-length-6 Inv-loop μ-loop
 same-length-6 c = search needs
 
 returns-2 : tie.Need-returns-2 Inv-loop μ-loop
-returns-2 c = searching-none _ _ _ _ _ _ _ _ (c .before .loop .inv .0) (omega arith)
+returns-2 c = (searching-gone _ _ _ _ _ _ _ _ (c .before .loop .inv .0) (omega arith), c .before .loop .inv .1)
 
 pub explore-spec : {M : Type 1} → statement M
 explore-spec =

@@ -1,5 +1,7 @@
 -- `chain::find_with` meets its contract.
 use borrow.Author.Needs.{needs}
+use native.Mathlib.Omega.{arith}
+use Rattle.chain.proofs.Members.{members-none}
 use Rattle.chain.proofs.find_with.Statement.{statement}
 use Rattle.chain.proofs.find_with.Tie as tie
 
@@ -7,8 +9,7 @@ prepare-requires : tie.Need-prepare-requires
 prepare-requires c κs = search needs
 
 search-requires : tie.Need-search-requires
-search-requires c κs = let a = c .before .before .before .before .before .before .before .before .before .before .before .before .before .before .before .before .before .before .before .before .before .before .before .before .before .before .before .before .before .before .before .before .before .before .before in
-    ((_, c .before .before .before .before .before .before .before .before .before .before .before .before .before .before .before .before .before .before .before .prepare .ensures), a .pre .1 .1)
+search-requires c κs = ((_, c .before .before .before .before .before .before .before .before .before .before .before .before .before .before .before .before .before .before .before .before .prepare .ensures), (c .before .before .before .before .before .before .before .before .before .before .before .before .before .before .before .before .before .before .before .before .before .before .before .before .before .before .before .before .before .before .before .before .before .before .before .before .pre .1 .1, members-none _ _))
 
 same-length : tie.Need-same-length
 same-length c = search needs
@@ -38,7 +39,7 @@ same-length-9 : tie.Need-same-length-9
 same-length-9 c = search needs
 
 returns : tie.Need-returns
-returns c = c .before .before .before .before .before .before .before .before .search .ensures _ (c .before .before .before .before .before .before .before .before .before .before .before .before .before .before .before .before .before .before .before .before .before .before .before .before .before .before .before .before .prepare .ensures)
+returns c = c .before .before .before .before .before .before .before .before .search .ensures .0 _ (c .before .before .before .before .before .before .before .before .before .before .before .before .before .before .before .before .before .before .before .before .before .before .before .before .before .before .before .before .before .prepare .ensures) (λ i l. absurd (omega arith)) .0
 
 pub find-with-spec : {M : Type 1} → statement M
 find-with-spec =

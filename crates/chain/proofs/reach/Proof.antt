@@ -2,7 +2,6 @@
 use Prim.Native.Nat.{ℕ, _<_}
 use mathlib.Core.Path.{_≡_, sym, _∙_, subst}
 use mathlib.Core.List.{List}
-use mathlib.Core.List.{List}
 use lib.ListN.{length, getD, set}
 use lib.Seq.{getD-set-same}
 use Rattle.chain.specs.Index.{numbered}
@@ -52,9 +51,11 @@ same-length-3 c = search needs
 returns : tie.Need-returns
 returns c = let a = c .before .before .before .before .before .before .before .before .before .before .before .before .before .before .before .before .before .before .before .before .before .before .before in
     let p = c .before .before .before .before .before .before .before .before .before .before .before .before .before .before .push in
-    let x = c .before .before .before .before .before .before .explore in
-    subst (λ (y : ℕ). AfterSearch (numbered (a .args .ends .now) (a .args .count)) y (a .args .to) (x .last .1 .1 .1 .1 .1 .0) (x .last .1 .1 .1 .1 .1 .1 .0) (x .result))
-    (first-entry (a .args .queue .now) (a .args .from) (omega (arith, a .pre .1 .1 .2 .for-queue)) (p .ensures .behind)) (x .ensures)
+    let x = c .before .before .before .before .before .before .explore in (
+      subst (λ (y : ℕ). AfterSearch (numbered (a .args .ends .now) (a .args .count)) y (a .args .to) (x .last .1 .1 .1 .1 .1 .0) (x .last .1 .1 .1 .1 .1 .1 .0) (x .result))
+          (first-entry (a .args .queue .now) (a .args .from) (omega (arith, a .pre .1 .1 .2 .for-queue)) (p .ensures .behind)) (x .ensures .0),
+      x .ensures .1,
+    )
 
 pub reach-spec : {M : Type 1} → statement M
 reach-spec =
