@@ -1,4 +1,5 @@
 pub mod Put
+pub mod Rest
 pub mod Breadth
 pub mod Steps
 pub mod Entries

@@ -8,7 +8,6 @@ use mathlib.Core.List.{List, [], _∷_, _++_}
 use lib.ListN.{length, getD, drop, take, set, length-append}
 use lib.Seq.{take-at}
 use borrow.Author.Tests.{le-leb}
-use Rattle.meaning.specs.Limits.{edgeLimit}
 use Rattle.meaning.specs.Chain.{chainOf}
 use Rattle.meaning.specs.Lists.{holds}
 use Rattle.meaning.specs.Lookup.{Target, parseFieldReference, findType}
@@ -36,7 +35,7 @@ use Rattle.checks.specs.declared.Check.the-variants as check
 use Rattle.checks.specs.declared.Part.{Part}
 use Rattle.checks.specs.declared.Part.the-variants as part
 use Rattle.sizes.specs.Tests.{definitionSizeDepends}
-use Rattle.checks.specs.Checks.{targetAt, typePart, PartOf, Checked, GraphOf}
+use Rattle.checks.specs.Checks.{targetAt, typePart, PartOf, Checked, GraphOf, ChainIs}
 
 -- three stores into the first places
 pub set-three : (l : List ℕ) (a b c : ℕ) → 3 ≤ length l → set (set (set l 0 a) 1 b) 2 c ≡ a ∷ b ∷ c ∷ drop 3 l
@@ -68,12 +67,7 @@ chain-none {o} h e = go o (sym e ∙ h .found)
     go none q = refl
     go (some names) q = let z : _≡_ {A = ℕ} 0 1 = cc in absurd (omega arith)
 
--- the chain o stands in the first k places of a list
-pub record ChainIs (o : Option (List ℕ)) (list : List ℕ) (k : ℕ) : Type 0 where
-  pub is : o ≡ some (take k list)
-  pub short : k ≤ edgeLimit + 1
-  pub room : k ≤ length list
-
+-- a chain that was found stands in the list
 list-chain : (o : Option (List ℕ)) (list list′ : List ℕ) (k : ℕ) → 1025 ≤ length list → ((names : List ℕ) → o ≡ some names → length names ≤ 1025)
     → Chain k ≡ foundOf o → list′ ≡ listOf o list → ChainIs o list′ k
 list-chain none list list′ k h short e q = let z : _≡_ {A = ℕ} 0 1 = cc in absurd (omega arith)

@@ -12,11 +12,13 @@ use Rattle.meaning.specs.Sizes.{namedSizeDepends, isEnumWithConstantSizeVariant
 use Rattle.meaning.specs.References.{collectFieldReferencesInTypeKind}
 use Rattle.meaning.specs.Tree.{Ty, Bundle}
 use Rattle.meaning.specs.Violations.{Violation, violation, enumForward, enumCycle, arrayCycle, fieldForward, variableElement, jaggedReference, jaggedInline, nestedJagged}
-use Rattle.meaning.specs.Violations.{isLaterField, typeNeedsFieldRefForLayout, checkForwardReference}
+use Rattle.meaning.specs.Violations.{findLayoutDependencyChain, isLaterField, typeNeedsFieldRefForLayout, checkForwardReference}
 use Rattle.bundle.specs.declared.Layout.{Layout}
 use Rattle.bundle.specs.Definitions.{bundleOf, EdgesFrom}
 use Rattle.chain.specs.Edges.{graphAt}
 use Rattle.chain.specs.Index.{Prepared, entryName}
+use Rattle.chain.specs.declared.Found as chain
+use Rattle.chain.specs.declared.Found.the-variants.{Missing, Chain}
 use Rattle.chain.specs.Members.{Members}
 use Rattle.chain.specs.Queue.{Spent}
 use Rattle.sizes.specs.Paths.{Fit}
@@ -89,9 +91,27 @@ pub record GraphOf (s : List ℕ) (l : Layout) : Type 0 where
 abbrev pub EdgesPrepared : List ℕ → Layout → List ℕ → List ℕ → List ℕ → List ℕ → List ℕ → ℕ → Type 0
 EdgesPrepared s l names table ends first links m = Prepared (graphAt s (l .«edges_at») (l .edges)) (l .edges) names table ends first links m
 
--- what searches to the name x leave: from none of the first n entries of the queue a chain leads to it
-abbrev pub Searched : List ℕ → Layout → List ℕ → List ℕ → List ℕ → ℕ → ℕ → Type 0
-Searched s l names queue marks n x = Members queue marks n × Spent (graphAt s (l .«edges_at») (l .edges)) (entryName names queue) n x
+-- the chain o stands in the first k places of a list
+pub record ChainIs (o : Option (List ℕ)) (list : List ℕ) (k : ℕ) : Type 0 where
+  pub is : o ≡ some (take k list)
+  pub short : k ≤ edgeLimit + 1
+  pub room : k ≤ length list
+
+-- the first n places of a list have a chain to the name x, where n is not 0
+pub record Held (s list : List ℕ) (n x : ℕ) : Type 0 where
+  pub room : n ≤ length list
+  pub is : 0 < n → (a : ℕ) × ChainIs (findLayoutDependencyChain (bundleOf s) a x) list n
+
+-- what searches to the name x leave: from none of the first n entries of the queue a chain leads to it, and a chain of m names is held
+pub record Searched (s : List ℕ) (l : Layout) (names queue marks : List ℕ) (n : ℕ) (list : List ℕ) (m x : ℕ) : Type 0 where
+  pub members : Members queue marks n
+  pub spent : Spent (graphAt s (l .«edges_at») (l .edges)) (entryName names queue) n x
+  pub held : Held s list m x
+
+-- how many names are held after a search, where there were n
+abbrev pub namesHeld : chain.Found → ℕ → ℕ
+namesHeld Missing n = n
+namesHeld (Chain k) n = k
 
 -- the first reference from `at` to `end` is at p, and those behind it start at `after`
 pub record ReferenceIs (s : List ℕ) (at end p after : ℕ) : Type 0 where

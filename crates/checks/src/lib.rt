@@ -6,9 +6,9 @@ use fields::Field;
 use fields::Shape;
 ghost use mathlib.Core.Path.{_≡_};
 ghost use mathlib.Core.Bool.{true, false, not};
-ghost use mathlib.Core.List.{[], _∷_};
-ghost use Prim.Native.Nat.{ℕ, _+_, _*_, _≤_, _<_};
-ghost use lib.ListN.{length, getD, drop};
+ghost use mathlib.Core.List.{[], _∷_, _++_};
+ghost use Prim.Native.Nat.{ℕ, _+_, _*_, _-_, _≤_, _<_};
+ghost use lib.ListN.{length, getD, take, drop};
 ghost use Rattle.meaning.specs.Limits.{sizeLimit};
 ghost use Rattle.meaning.specs.Lists.{holds};
 ghost use Rattle.meaning.specs.Lookup.{findType, isStruct};
@@ -25,7 +25,7 @@ ghost use Rattle.chain.specs.Index.{Workspace};
 ghost use Rattle.sizes.specs.Paths.{Fit};
 ghost use Rattle.sizes.specs.Scan.{pathAt, referencesFrom, Fits};
 ghost use Rattle.sizes.specs.Tests.{Acyclic, Kept};
-ghost use Rattle.checks.specs.Checks.{targetAt, typePart, PartOf, Checked, GraphOf, EdgesPrepared, Searched, Referred, isForward, Forwarded, ForwardIn};
+ghost use Rattle.checks.specs.Checks.{targetAt, typePart, PartOf, Checked, GraphOf, EdgesPrepared, Searched, namesHeld, Referred, isForward, Forwarded, ForwardIn};
 
 // What a check finds: nothing, or a violation by its type. The chain stands beside it in a lent list.
 pub enum Check {
@@ -54,8 +54,45 @@ fn set_chain(list: &mut [u16], a: u16, b: u16, c: u16)
     list[2] = c;
 }
 
-// The chain from one name to another over the edges of the bundle, into the first places of the list. The edges are prepared once for
-// all searches: `names`, `table`, `ends`, `first` and `links`, with `m` names. What `queue`, `parents` and `marks` hold is free.
+// The place of a name among the first n names of a list, and n where it is none of them.
+fn find_name(list: &[u16], n: usize, name: u16) -> usize
+    requires { ⌜ n ≤ length (now list) ⌝ }
+    ensures { λ r. ⌜ (r ≤ n) × (r < n → getD (now (list .entry)) r 0 ≡ name) ⌝ }
+{
+    let mut i = 0;
+    while i < n {
+        if list[i] == name {
+            return i;
+        }
+        i += 1;
+    }
+    n
+}
+
+// Drops the first k of the n names of a list.
+fn drop_names(list: &mut [u16], k: usize, n: usize)
+    requires { ⌜ (k ≤ n) × (n ≤ length (now list)) × (n ≤ 1025) ⌝ }
+    ensures { λ _. ⌜ now (list .exit) ≡ take (n - k) (drop k (now (list .entry))) ++ drop (n - k) (now (list .entry)) ⌝ }
+{
+    let mut i = 0;
+    while i < n - k {
+        list[i] = list[i + k];
+        i += 1;
+    }
+}
+
+// How many names the list holds after a search, where there were n.
+fn names_held(found: Found, n: usize) -> usize
+    ensures { λ r. ⌜ r ≡ namesHeld found n ⌝ }
+{
+    match found {
+        Found::Missing => n,
+        Found::Chain(k) => k,
+    }
+}
+
+// The chain between two names over the edges of the bundle, into the list. All searches with the same `spent` and `held` are to one
+// name, and the list has a chain to it of `held` names: the rest of a chain, from any of its names on, is the chain from there.
 fn find_layout_dependency_chain(
     s: &[u8],
     layout: Layout,
@@ -71,13 +108,21 @@ fn find_layout_dependency_chain(
     parents: &mut [u16],
     marks: &mut [u16],
     spent: &mut usize,
+    held: &mut usize,
     list: &mut [u16],
 ) -> Found
     requires { ⌜ EdgesPrepared (now s) layout (now names) (now table) (now ends) (now first) (now links) m × Workspace (layout .edges) (now queue) (now parents) ⌝ }
-    requires { ⌜ GraphOf (now s) layout × Searched (now s) layout (now names) (now queue) (now marks) (now spent) to ⌝ }
-    ensures { λ r. ⌜ Answers (findLayoutDependencyChain (bundleOf (now (s .entry))) from to) (now (list .entry)) (now (list .exit)) r × Searched (now (s .entry)) layout (now (names .entry)) (now (queue .exit)) (now (marks .exit)) (now (spent .exit)) to ⌝ }
+    requires { ⌜ GraphOf (now s) layout × (1025 ≤ length (now list)) × Searched (now s) layout (now names) (now queue) (now marks) (now spent) (now list) (now held) to ⌝ }
+    ensures { λ r. ⌜ Answers (findLayoutDependencyChain (bundleOf (now (s .entry))) from to) (now (list .entry)) (now (list .exit)) r × Searched (now (s .entry)) layout (now (names .entry)) (now (queue .exit)) (now (marks .exit)) (now (spent .exit)) (now (list .exit)) (now (held .exit)) to ⌝ }
 {
-    chain::search(
+    let n = *held;
+    let k = find_name(list, n, from);
+    if k < n {
+        drop_names(list, k, n);
+        *held = n - k;
+        return Found::Chain(n - k);
+    }
+    let found = chain::search(
         names,
         table,
         ends,
@@ -92,7 +137,9 @@ fn find_layout_dependency_chain(
         marks,
         spent,
         list,
-    )
+    );
+    *held = names_held(found, n);
+    found
 }
 
 // The field part of a reference.
@@ -174,16 +221,18 @@ pub fn check_enum_tag_layout_cycle(
     parents: &mut [u16],
     marks: &mut [u16],
     spent: &mut usize,
+    held: &mut usize,
     list: &mut [u16],
 ) -> Check
     requires { ⌜ EdgesPrepared (now s) layout (now names) (now table) (now ends) (now first) (now links) m × Workspace (layout .edges) (now queue) (now parents) ⌝ }
     requires { ⌜ LayoutOf (now s) layout (now places) × Acyclic (now s) × Kept (now s) false (now kept) ⌝ }
-    requires { ⌜ Fit (now s) path × (1025 ≤ length (now list)) × Searched (now s) layout (now names) (now queue) (now marks) (now spent) name ⌝ }
-    ensures { λ r. ⌜ Checked (now (s .entry)) name (now (list .exit)) r (λ i. checkEnumTagLayoutCycle (bundleOf (now (s .entry))) i name (pathAt (now (s .entry)) path)) × Kept (now (s .entry)) false (now (kept .exit)) × Searched (now (s .entry)) layout (now (names .entry)) (now (queue .exit)) (now (marks .exit)) (now (spent .exit)) name ⌝ }
+    requires { ⌜ Fit (now s) path × (1025 ≤ length (now list)) × Searched (now s) layout (now names) (now queue) (now marks) (now spent) (now list) (now held) name ⌝ }
+    ensures { λ r. ⌜ Checked (now (s .entry)) name (now (list .exit)) r (λ i. checkEnumTagLayoutCycle (bundleOf (now (s .entry))) i name (pathAt (now (s .entry)) path)) × Kept (now (s .entry)) false (now (kept .exit)) × Searched (now (s .entry)) layout (now (names .entry)) (now (queue .exit)) (now (marks .exit)) (now (spent .exit)) (now (list .exit)) (now (held .exit)) name ⌝ }
 {
     let count = layout.definitions;
     let target = sizes::parse_field_reference(s, path, layout.current);
     if fields::is_enum_referencing_same_container_struct(s, places, count, name, target.name) {
+        *held = 0;
         return check_enum_forward_reference_in_same_struct(
             s,
             places,
@@ -212,6 +261,7 @@ pub fn check_enum_tag_layout_cycle(
         parents,
         marks,
         spent,
+        held,
         list,
     );
     match found {
@@ -236,11 +286,12 @@ pub fn check_array_size_layout_cycle(
     parents: &mut [u16],
     marks: &mut [u16],
     spent: &mut usize,
+    held: &mut usize,
     list: &mut [u16],
 ) -> Check
     requires { ⌜ EdgesPrepared (now s) layout (now names) (now table) (now ends) (now first) (now links) m × Workspace (layout .edges) (now queue) (now parents) ⌝ }
-    requires { ⌜ GraphOf (now s) layout × Fit (now s) path × (1025 ≤ length (now list)) × Searched (now s) layout (now names) (now queue) (now marks) (now spent) name ⌝ }
-    ensures { λ r. ⌜ Checked (now (s .entry)) name (now (list .exit)) r (λ i. checkArraySizeLayoutCycle (bundleOf (now (s .entry))) i name (pathAt (now (s .entry)) path)) × Searched (now (s .entry)) layout (now (names .entry)) (now (queue .exit)) (now (marks .exit)) (now (spent .exit)) name ⌝ }
+    requires { ⌜ GraphOf (now s) layout × Fit (now s) path × (1025 ≤ length (now list)) × Searched (now s) layout (now names) (now queue) (now marks) (now spent) (now list) (now held) name ⌝ }
+    ensures { λ r. ⌜ Checked (now (s .entry)) name (now (list .exit)) r (λ i. checkArraySizeLayoutCycle (bundleOf (now (s .entry))) i name (pathAt (now (s .entry)) path)) × Searched (now (s .entry)) layout (now (names .entry)) (now (queue .exit)) (now (marks .exit)) (now (spent .exit)) (now (list .exit)) (now (held .exit)) name ⌝ }
 {
     let target = sizes::parse_field_reference(s, path, layout.current);
     let found = find_layout_dependency_chain(
@@ -258,6 +309,7 @@ pub fn check_array_size_layout_cycle(
         parents,
         marks,
         spent,
+        held,
         list,
     );
     match found {

@@ -1,5 +1,5 @@
 -- Writing violations one behind the other.
-use Prim.Native.Nat.{ℕ, zero, suc, _+_, _*_, _≤_, _<_}
+use Prim.Native.Nat.{ℕ, zero, suc, _+_, _*_, _-_, _≤_, _<_}
 use native.Mathlib.Omega.{arith}
 use mathlib.Core.Bool.{Bool, true, false}
 use mathlib.Core.Option.{Option, none, some}
@@ -216,6 +216,10 @@ module _ {s : List ℕ} {c : Check} {r : Record} (g : Recorded s c r) (i n : ℕ
       counts = ap (λ o. p .count + length (push o [])) (sym is-found);
       short = omega (arith, ap (λ o. length (push o [])) is-found, ap length one, size, g .room (length list) f .0);
     }
+
+-- less is left behind a reference than before it
+pub falls : {a b e : ℕ} → a < e → a < b → e - b < e - a
+falls l m = omega arith
 
 -- the references from `next` to `end` are still to be checked
 pub record Referencing (s : List ℕ) (f : List ℕ → Option Violation) (at end : ℕ) (list₀ out₀ : List ℕ) (p₀ : Position) (list out : List ℕ) (next : ℕ) (p : Position) : Type 0 where

@@ -158,12 +158,13 @@ fn check_reference(
     parents: &mut [u16],
     marks: &mut [u16],
     spent: &mut usize,
+    held: &mut usize,
     list: &mut [u16],
 ) -> Check
     requires { ⌜ EdgesPrepared (now s) layout (now names) (now table) (now ends) (now first) (now links) m × Workspace (layout .edges) (now queue) (now parents) ⌝ }
     requires { ⌜ LayoutOf (now s) layout (now places) × Acyclic (now s) × Kept (now s) false (now kept) ⌝ }
-    requires { ⌜ Fit (now s) path × (1025 ≤ length (now list)) × Searched (now s) layout (now names) (now queue) (now marks) (now spent) name ⌝ }
-    ensures { λ r. ⌜ Checked (now (s .entry)) name (now (list .exit)) r (λ i. checkReference tag (bundleOf (now (s .entry))) i name (pathAt (now (s .entry)) path)) × Kept (now (s .entry)) false (now (kept .exit)) × Searched (now (s .entry)) layout (now (names .entry)) (now (queue .exit)) (now (marks .exit)) (now (spent .exit)) name ⌝ }
+    requires { ⌜ Fit (now s) path × (1025 ≤ length (now list)) × Searched (now s) layout (now names) (now queue) (now marks) (now spent) (now list) (now held) name ⌝ }
+    ensures { λ r. ⌜ Checked (now (s .entry)) name (now (list .exit)) r (λ i. checkReference tag (bundleOf (now (s .entry))) i name (pathAt (now (s .entry)) path)) × Kept (now (s .entry)) false (now (kept .exit)) × Searched (now (s .entry)) layout (now (names .entry)) (now (queue .exit)) (now (marks .exit)) (now (spent .exit)) (now (list .exit)) (now (held .exit)) name ⌝ }
 {
     if tag {
         return checks::check_enum_tag_layout_cycle(
@@ -183,6 +184,7 @@ fn check_reference(
             parents,
             marks,
             spent,
+            held,
             list,
         );
     }
@@ -201,12 +203,13 @@ fn check_reference(
         parents,
         marks,
         spent,
+        held,
         list,
     )
 }
 
 // Checks each reference from `at` to `end`, and writes what is found. All searches here are to one name, so that each may use what the
-// one before it has left.
+// ones before it have left.
 fn validate_references(
     s: &[u8],
     places: &[u16],
@@ -238,6 +241,7 @@ fn validate_references(
     let i = subject.number;
     let name = subject.name;
     let mut spent = 0;
+    let mut held = 0;
     let mut next = at;
     let mut reached = position;
     while next < end {
@@ -263,6 +267,7 @@ fn validate_references(
             parents,
             marks,
             &mut spent,
+            &mut held,
             list,
         );
         match check {

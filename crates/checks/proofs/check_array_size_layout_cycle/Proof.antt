@@ -8,7 +8,7 @@ parse-field-reference-requires : tie.Need-parse-field-reference-requires
 parse-field-reference-requires c κs = c .before .before .before .before .before .before .before .before .before .before .pre .1 .1
 
 find-layout-dependency-chain-requires : tie.Need-find-layout-dependency-chain-requires
-find-layout-dependency-chain-requires c κs = (c .before .before .before .before .before .before .before .before .before .before .before .before .before .before .before .before .pre .0, (c .before .before .before .before .before .before .before .before .before .before .before .before .before .before .before .before .pre .1 .0, c .before .before .before .before .before .before .before .before .before .before .before .before .before .before .before .before .pre .1 .3))
+find-layout-dependency-chain-requires c κs = (c .before .before .before .before .before .before .before .before .before .before .before .before .before .before .before .before .before .pre .0, (c .before .before .before .before .before .before .before .before .before .before .before .before .before .before .before .before .before .pre .1 .0, c .before .before .before .before .before .before .before .before .before .before .before .before .before .before .before .before .before .pre .1 .2, c .before .before .before .before .before .before .before .before .before .before .before .before .before .before .before .before .before .pre .1 .3))
 
 enum-told : tie.Need-enum-told
 enum-told c = search needs
@@ -29,7 +29,7 @@ same-length-4 : tie.Need-same-length-4
 same-length-4 c = search needs
 
 returns : tie.Need-returns
-returns c = (fine _ _ _ (array-none _ _ _ _ (type-part (c .before .before .before .before .before .before .before .before .before .before .before .before .before .before .before .before .before .before .before .before .before .before .before .before .before .before .before .pre .1 .0) _ _ (c .before .before .before .before .before .before .before .before .before .before .before .before .before .before .before .before .parse-field-reference .ensures)) (chain-none (c .before .before .before .before .before .before .before .before .before .before .find-layout-dependency-chain .ensures .0) (c .enum-told .given .1))), c .before .before .before .before .before .before .before .before .before .before .find-layout-dependency-chain .ensures .1)
+returns c = (fine _ _ _ (array-none _ _ _ _ (type-part (c .before .before .before .before .before .before .before .before .before .before .before .before .before .before .before .before .before .before .before .before .before .before .before .before .before .before .before .before .pre .1 .0) _ _ (c .before .before .before .before .before .before .before .before .before .before .before .before .before .before .before .before .before .parse-field-reference .ensures)) (chain-none (c .before .before .before .before .before .before .before .before .before .before .find-layout-dependency-chain .ensures .0) (c .enum-told .given .1))), c .before .before .before .before .before .before .before .before .before .before .find-layout-dependency-chain .ensures .1)
 
 same-length-5 : tie.Need-same-length-5
 same-length-5 c = search needs
@@ -44,7 +44,7 @@ same-length-8 : tie.Need-same-length-8
 same-length-8 c = search needs
 
 returns-2 : tie.Need-returns-2
-returns-2 c = (array-some _ _ _ _ (type-part (c .before .before .before .before .before .before .before .before .before .before .before .before .before .before .before .before .before .before .before .before .before .before .before .before .before .before .before .before .pre .1 .0) _ _ (c .before .before .before .before .before .before .before .before .before .before .before .before .before .before .before .before .before .parse-field-reference .ensures)) (c .before .before .before .before .before .before .before .before .before .before .before .before .before .before .before .before .before .before .before .before .before .before .before .before .before .before .before .before .pre .1 .1) (chain-is (c .before .before .before .before .before .before .before .before .before .before .before .before .before .before .before .before .before .before .before .before .before .before .before .before .before .before .before .before .pre .1 .0) _ _ (c .before .before .before .before .before .before .before .before .before .before .before .before .before .before .before .before .before .before .before .before .before .before .before .before .before .before .before .before .pre .1 .2) (c .before .before .before .before .before .before .before .before .before .before .before .find-layout-dependency-chain .ensures .0) (c .before .found .given .1)), c .before .before .before .before .before .before .before .before .before .before .before .find-layout-dependency-chain .ensures .1)
+returns-2 c = (array-some _ _ _ _ (type-part (c .before .before .before .before .before .before .before .before .before .before .before .before .before .before .before .before .before .before .before .before .before .before .before .before .before .before .before .before .before .pre .1 .0) _ _ (c .before .before .before .before .before .before .before .before .before .before .before .before .before .before .before .before .before .before .parse-field-reference .ensures)) (c .before .before .before .before .before .before .before .before .before .before .before .before .before .before .before .before .before .before .before .before .before .before .before .before .before .before .before .before .before .pre .1 .1) (chain-is (c .before .before .before .before .before .before .before .before .before .before .before .before .before .before .before .before .before .before .before .before .before .before .before .before .before .before .before .before .before .pre .1 .0) _ _ (c .before .before .before .before .before .before .before .before .before .before .before .before .before .before .before .before .before .before .before .before .before .before .before .before .before .before .before .before .before .pre .1 .2) (c .before .before .before .before .before .before .before .before .before .before .before .find-layout-dependency-chain .ensures .0) (c .before .found .given .1)), c .before .before .before .before .before .before .before .before .before .before .before .find-layout-dependency-chain .ensures .1)
 
 pub check-array-size-layout-cycle-spec : {M : Type 1} → statement M
 check-array-size-layout-cycle-spec =
