@@ -15,7 +15,14 @@ use Rattle.bundle.specs.declared.TypeForm.the-variants.{Primitive, TypeRef, Str
 use Rattle.bundle.specs.declared.Form.{Form}
 use Rattle.bundle.specs.View.{typeFormMeant, formMeant}
 use Rattle.bundle.proofs.TypeForm.{the-type}
+use Rattle.writer.specs.declared.Part.{Part}
+use Rattle.writer.specs.declared.Shaped.the-variants.{Body}
 use Rattle.writer.specs.Shapes.{oneOf, sound}
+
+-- bodies of equal parts
+pub bodies : {a b c d e f g h : Part} → a ≡ e → b ≡ f → c ≡ g → d ≡ h
+    → Body (record { first = a; second = b; third = c; fourth = d }) ≡ Body (record { first = e; second = f; third = g; fourth = h })
+bodies p q r s = rw (p, q, r, s)
 
 -- one of four that is none of the first three
 pub the-last : (a b c d n : ℕ) → T (oneOf a b c d n) → (n ≡ a → ⊥) → (n ≡ b → ⊥) → (n ≡ c → ⊥) → n ≡ d

@@ -52,6 +52,7 @@ use Rattle.sizes.proofs.+array_test+definition_test+enum_definition_tes
 use Prim.Native.Nat.{_+_, _*_}
 use mathlib.Core.Path.{sym, ap, _∙_}
 use Rattle.meaning.specs.Lookup.{definitionOf}
+use Rattle.bundle.specs.declared.Form.the-variants.{OfType}
 use Rattle.bundle.specs.Definitions.{bundleOf, zeroGroup}
 use Rattle.bundle.specs.Circles.{typeLeads, membersLead}
 use Rattle.bundle.proofs.Forms.{not-type, primitive-meant, typeRef-meant, struct-meant, union-meant, enum-meant, array-meant, sizeUnion-meant}
@@ -382,25 +383,25 @@ definition-test-enum-told-7 : Ask-definition-test definition-test-lts.Need-enum-
 definition-test-enum-told-7 t c = search needs
 
 definition-test-returns-3 : Ask-definition-test definition-test-lts.Need-returns-3
-definition-test-returns-3 t c = (sym (primitive-named _ _ _ (c .before .before .before .before .before .before .before .before .before .before .pre .1 .1 .0) (type-opened _ _ _ _ (c .before .before .before .before .before .before .before .before .before .before .pre .1 .1 .0) (c .before .before .before .before .before .form-of .ensures)) (c .before .before .before .before .before .before .before .if1 .left) (primitive-meant (cc))), c .before .before .before .before .before .before .before .before .before .before .pre .1 .1 .1 .keeps)
+definition-test-returns-3 t c = (sym (primitive-named _ _ _ (c .before .before .before .before .before .before .before .before .before .before .pre .1 .1 .0) (type-opened _ _ _ _ (c .before .before .before .before .before .before .before .before .before .before .pre .1 .1 .0) (c .before .before .before .before .before .form-of .ensures)) (c .before .before .before .before .before .before .before .if1 .left) (primitive-meant (c .before .before .before .form .given .1 ∙ ap OfType (c .enum-told .given .1)))), c .before .before .before .before .before .before .before .before .before .before .pre .1 .1 .1 .keeps)
 
 definition-test-returns-4 : Ask-definition-test definition-test-lts.Need-returns-4
-definition-test-returns-4 t c = (sym (typeRef-named _ _ _ (c .before .before .before .before .before .before .before .before .before .before .pre .1 .1 .0) (type-opened _ _ _ _ (c .before .before .before .before .before .before .before .before .before .before .pre .1 .1 .0) (c .before .before .before .before .before .form-of .ensures)) (c .before .before .before .before .before .before .before .if1 .left) (typeRef-meant (cc))), c .before .before .before .before .before .before .before .before .before .before .pre .1 .1 .1 .keeps)
+definition-test-returns-4 t c = (sym (typeRef-named _ _ _ (c .before .before .before .before .before .before .before .before .before .before .pre .1 .1 .0) (type-opened _ _ _ _ (c .before .before .before .before .before .before .before .before .before .before .pre .1 .1 .0) (c .before .before .before .before .before .form-of .ensures)) (c .before .before .before .before .before .before .before .if1 .left) (typeRef-meant (c .before .before .before .form .given .1 ∙ ap OfType (c .enum-told2 .given .1)))), c .before .before .before .before .before .before .before .before .before .before .pre .1 .1 .1 .keeps)
 
 definition-test-returns-5 : Ask-definition-test definition-test-lts.Need-returns-5
-definition-test-returns-5 t c = (c .is-holds2 .ensures ∙ struct-named _ _ _ (c .before .before .before .before .before .before .before .before .before .before .before .before .before .pre .1 .1 .0) (type-opened _ _ _ _ (c .before .before .before .before .before .before .before .before .before .before .before .before .before .pre .1 .1 .0) (c .before .before .before .before .before .before .before .before .form-of .ensures)) (c .before .before .before .before .before .before .before .before .before .before .if1 .left) _ (c .before .inline-type-test2 .ensures .0) (struct-meant (cc)), c .before .inline-type-test2 .ensures .1)
+definition-test-returns-5 t c = (c .is-holds2 .ensures ∙ struct-named _ _ _ (c .before .before .before .before .before .before .before .before .before .before .before .before .before .pre .1 .1 .0) (type-opened _ _ _ _ (c .before .before .before .before .before .before .before .before .before .before .before .before .before .pre .1 .1 .0) (c .before .before .before .before .before .before .before .before .form-of .ensures)) (c .before .before .before .before .before .before .before .before .before .before .if1 .left) _ (c .before .inline-type-test2 .ensures .0) (struct-meant (c .before .before .before .before .before .before .form .given .1 ∙ ap OfType (c .before .before .before .enum-told3 .given .1))), c .before .inline-type-test2 .ensures .1)
 
 definition-test-returns-6 : Ask-definition-test definition-test-lts.Need-returns-6
-definition-test-returns-6 t c = (c .is-holds3 .ensures ∙ union-named _ _ _ (c .before .before .before .before .before .before .before .before .before .before .before .before .before .pre .1 .1 .0) (type-opened _ _ _ _ (c .before .before .before .before .before .before .before .before .before .before .before .before .before .pre .1 .1 .0) (c .before .before .before .before .before .before .before .before .form-of .ensures)) (c .before .before .before .before .before .before .before .before .before .before .if1 .left) _ (c .before .inline-type-test3 .ensures .0) (union-meant (cc)), c .before .inline-type-test3 .ensures .1)
+definition-test-returns-6 t c = (c .is-holds3 .ensures ∙ union-named _ _ _ (c .before .before .before .before .before .before .before .before .before .before .before .before .before .pre .1 .1 .0) (type-opened _ _ _ _ (c .before .before .before .before .before .before .before .before .before .before .before .before .before .pre .1 .1 .0) (c .before .before .before .before .before .before .before .before .form-of .ensures)) (c .before .before .before .before .before .before .before .before .before .before .if1 .left) _ (c .before .inline-type-test3 .ensures .0) (union-meant (c .before .before .before .before .before .before .form .given .1 ∙ ap OfType (c .before .before .before .enum-told4 .given .1))), c .before .inline-type-test3 .ensures .1)
 
 definition-test-returns-7 : Ask-definition-test definition-test-lts.Need-returns-7
-definition-test-returns-7 t c = (c .enum-definition-test .ensures .0 ∙ ap (namedHolds _ _) (sym (enum-tree (type-opened _ _ _ _ (c .before .before .before .before .before .before .before .before .before .before .before .before .pre .1 .1 .0) (c .before .before .before .before .before .before .before .form-of .ensures)) (c .before .before .before .before .before .before .before .before .before .before .before .before .pre .1 .1 .0) (enum-meant (cc)))), c .enum-definition-test .ensures .1)
+definition-test-returns-7 t c = (c .enum-definition-test .ensures .0 ∙ ap (namedHolds _ _) (sym (enum-tree (type-opened _ _ _ _ (c .before .before .before .before .before .before .before .before .before .before .before .before .pre .1 .1 .0) (c .before .before .before .before .before .before .before .form-of .ensures)) (c .before .before .before .before .before .before .before .before .before .before .before .before .pre .1 .1 .0) (enum-meant (c .before .before .before .before .before .form .given .1 ∙ ap OfType (c .before .before .enum-told5 .given .1))))), c .enum-definition-test .ensures .1)
 
 definition-test-returns-8 : Ask-definition-test definition-test-lts.Need-returns-8
-definition-test-returns-8 t c = (array-named _ _ _ (c .before .before .before .before .before .before .before .before .before .before .before .pre .1 .1 .0) (type-opened _ _ _ _ (c .before .before .before .before .before .before .before .before .before .before .before .pre .1 .1 .0) (c .before .before .before .before .before .before .form-of .ensures)) (c .before .before .before .before .before .before .before .before .if1 .left) _ (c .is-constant .ensures) (array-meant (cc)), c .before .before .before .before .before .before .before .before .before .before .before .pre .1 .1 .1 .keeps)
+definition-test-returns-8 t c = (array-named _ _ _ (c .before .before .before .before .before .before .before .before .before .before .before .pre .1 .1 .0) (type-opened _ _ _ _ (c .before .before .before .before .before .before .before .before .before .before .before .pre .1 .1 .0) (c .before .before .before .before .before .before .form-of .ensures)) (c .before .before .before .before .before .before .before .before .if1 .left) _ (c .is-constant .ensures) (array-meant (c .before .before .before .before .form .given .1 ∙ ap OfType (c .before .enum-told6 .given .1))), c .before .before .before .before .before .before .before .before .before .before .before .pre .1 .1 .1 .keeps)
 
 definition-test-returns-9 : Ask-definition-test definition-test-lts.Need-returns-9
-definition-test-returns-9 t c = (sym (sizeUnion-named _ _ _ (c .before .before .before .before .before .before .before .before .before .before .pre .1 .1 .0) (type-opened _ _ _ _ (c .before .before .before .before .before .before .before .before .before .before .pre .1 .1 .0) (c .before .before .before .before .before .form-of .ensures)) (c .before .before .before .before .before .before .before .if1 .left) (sizeUnion-meant (cc))), c .before .before .before .before .before .before .before .before .before .before .pre .1 .1 .1 .keeps)
+definition-test-returns-9 t c = (sym (sizeUnion-named _ _ _ (c .before .before .before .before .before .before .before .before .before .before .pre .1 .1 .0) (type-opened _ _ _ _ (c .before .before .before .before .before .before .before .before .before .before .pre .1 .1 .0) (c .before .before .before .before .before .form-of .ensures)) (c .before .before .before .before .before .before .before .if1 .left) (sizeUnion-meant (c .before .before .before .form .given .1 ∙ ap OfType (c .enum-told7 .given .1)))), c .before .before .before .before .before .before .before .before .before .before .pre .1 .1 .1 .keeps)
 
 enum-definition-test-count-at-requires : Ask-enum-definition-test enum-definition-test-lts.Need-count-at-requires
 enum-definition-test-count-at-requires t c κs = c .before .before .pre .1 .1
@@ -586,28 +587,28 @@ inline-type-test-group-test-requires-3 : Ask-inline-type-test inline-type-test-l
 inline-type-test-group-test-requires-3 t c κs = (omega (arith, type-deep _ _ _ (c .before .before .before .before .before .before .before .before .before .before .before .pre .1 .1 .0), c .before .before .before .before .before .before .before .before .before .before .before .pre .0), (omega (arith, type-there _ _ _ (c .before .before .before .before .before .before .before .before .before .before .before .pre .1 .1 .0)), (c .before .before .before .before .before .before .before .before .before .before .before .pre .1 .0), (sizeUnion-reads (type-opened _ _ _ _ (c .before .before .before .before .before .before .before .before .before .before .before .pre .1 .1 .0) (c .before .before .before .before .before .before .before .form-of .ensures)) (c .before .before .before .before .before .before .before .before .before .before .before .pre .1 .1 .0) (sizeUnion-meant (cc)), ready-same (sizeUnion-leads _ (type-opened _ _ _ _ (c .before .before .before .before .before .before .before .before .before .before .before .pre .1 .1 .0) (c .before .before .before .before .before .before .before .form-of .ensures)) (c .before .before .before .before .before .before .before .before .before .before .before .pre .1 .1 .0) (sizeUnion-meant (cc))) (c .before .before .before .before .before .before .before .before .before .before .before .pre .1 .1 .1))))
 
 inline-type-test-returns-2 : Ask-inline-type-test inline-type-test-lts.Need-returns-2
-inline-type-test-returns-2 t c = (c .group-test3 .ensures .0 ∙ sizeUnion-tested _ _ (type-opened _ _ _ _ (c .before .before .before .before .before .before .before .before .before .before .before .before .pre .1 .1 .0) (c .before .before .before .before .before .before .before .before .form-of .ensures)) (c .before .before .before .before .before .before .before .before .before .before .before .before .pre .1 .1 .0) (sizeUnion-meant (cc)) (c .before .before .if1 .taken), c .group-test3 .ensures .1)
+inline-type-test-returns-2 t c = (c .group-test3 .ensures .0 ∙ sizeUnion-tested _ _ (type-opened _ _ _ _ (c .before .before .before .before .before .before .before .before .before .before .before .before .pre .1 .1 .0) (c .before .before .before .before .before .before .before .before .form-of .ensures)) (c .before .before .before .before .before .before .before .before .before .before .before .before .pre .1 .1 .0) (sizeUnion-meant (c .before .before .before .before .before .before .form .given .1 ∙ ap OfType (c .before .before .before .enum-told7 .given .1))) (c .before .before .if1 .taken), c .group-test3 .ensures .1)
 
 inline-type-test-returns-3 : Ask-inline-type-test inline-type-test-lts.Need-returns-3
-inline-type-test-returns-3 t c = (sym (primitive-tested _ _ (type-opened _ _ _ _ (c .before .before .before .before .before .before .before .before .before .pre .1 .1 .0) (c .before .before .before .before .before .form-of .ensures)) (c .before .before .before .before .before .before .before .before .before .pre .1 .1 .0) (primitive-meant (cc))), c .before .before .before .before .before .before .before .before .before .pre .1 .1 .1 .keeps)
+inline-type-test-returns-3 t c = (sym (primitive-tested _ _ (type-opened _ _ _ _ (c .before .before .before .before .before .before .before .before .before .pre .1 .1 .0) (c .before .before .before .before .before .form-of .ensures)) (c .before .before .before .before .before .before .before .before .before .pre .1 .1 .0) (primitive-meant (c .before .before .before .form .given .1 ∙ ap OfType (c .enum-told .given .1)))), c .before .before .before .before .before .before .before .before .before .pre .1 .1 .1 .keeps)
 
 inline-type-test-returns-4 : Ask-inline-type-test inline-type-test-lts.Need-returns-4
-inline-type-test-returns-4 t c = (c .tested-again .ensures ∙ c .before .reference-test .ensures .0 ∙ typeRef-tested _ _ (type-opened _ _ _ _ (c .before .before .before .before .before .before .before .before .before .before .before .before .pre .1 .1 .0) (c .before .before .before .before .before .before .before .before .form-of .ensures)) (c .before .before .before .before .before .before .before .before .before .before .before .before .pre .1 .1 .0) (typeRef-meant (cc)), c .before .reference-test .ensures .1)
+inline-type-test-returns-4 t c = (c .tested-again .ensures ∙ c .before .reference-test .ensures .0 ∙ typeRef-tested _ _ (type-opened _ _ _ _ (c .before .before .before .before .before .before .before .before .before .before .before .before .pre .1 .1 .0) (c .before .before .before .before .before .before .before .before .form-of .ensures)) (c .before .before .before .before .before .before .before .before .before .before .before .before .pre .1 .1 .0) (typeRef-meant (c .before .before .before .before .before .before .form .given .1 ∙ ap OfType (c .before .before .before .enum-told2 .given .1))), c .before .reference-test .ensures .1)
 
 inline-type-test-returns-5 : Ask-inline-type-test inline-type-test-lts.Need-returns-5
-inline-type-test-returns-5 t c = (c .tested-again2 .ensures ∙ c .before .group-test .ensures .0 ∙ struct-tested _ _ (type-opened _ _ _ _ (c .before .before .before .before .before .before .before .before .before .before .before .before .pre .1 .1 .0) (c .before .before .before .before .before .before .before .before .form-of .ensures)) (c .before .before .before .before .before .before .before .before .before .before .before .before .pre .1 .1 .0) (struct-meant (cc)), c .before .group-test .ensures .1)
+inline-type-test-returns-5 t c = (c .tested-again2 .ensures ∙ c .before .group-test .ensures .0 ∙ struct-tested _ _ (type-opened _ _ _ _ (c .before .before .before .before .before .before .before .before .before .before .before .before .pre .1 .1 .0) (c .before .before .before .before .before .before .before .before .form-of .ensures)) (c .before .before .before .before .before .before .before .before .before .before .before .before .pre .1 .1 .0) (struct-meant (c .before .before .before .before .before .before .form .given .1 ∙ ap OfType (c .before .before .before .enum-told3 .given .1))), c .before .group-test .ensures .1)
 
 inline-type-test-returns-6 : Ask-inline-type-test inline-type-test-lts.Need-returns-6
-inline-type-test-returns-6 t c = (c .tested-again3 .ensures ∙ c .before .group-test2 .ensures .0 ∙ union-tested _ _ (type-opened _ _ _ _ (c .before .before .before .before .before .before .before .before .before .before .before .before .pre .1 .1 .0) (c .before .before .before .before .before .before .before .before .form-of .ensures)) (c .before .before .before .before .before .before .before .before .before .before .before .before .pre .1 .1 .0) (union-meant (cc)), c .before .group-test2 .ensures .1)
+inline-type-test-returns-6 t c = (c .tested-again3 .ensures ∙ c .before .group-test2 .ensures .0 ∙ union-tested _ _ (type-opened _ _ _ _ (c .before .before .before .before .before .before .before .before .before .before .before .before .pre .1 .1 .0) (c .before .before .before .before .before .before .before .before .form-of .ensures)) (c .before .before .before .before .before .before .before .before .before .before .before .before .pre .1 .1 .0) (union-meant (c .before .before .before .before .before .before .form .given .1 ∙ ap OfType (c .before .before .before .enum-told4 .given .1))), c .before .group-test2 .ensures .1)
 
 inline-type-test-returns-7 : Ask-inline-type-test inline-type-test-lts.Need-returns-7
-inline-type-test-returns-7 t c = (c .tested-again4 .ensures ∙ c .before .enum-test .ensures .0 ∙ sym (enum-inline _ _ (type-opened _ _ _ _ (c .before .before .before .before .before .before .before .before .before .before .before .before .pre .1 .1 .0) (c .before .before .before .before .before .before .before .before .form-of .ensures)) (c .before .before .before .before .before .before .before .before .before .before .before .before .pre .1 .1 .0) (enum-meant (cc))), c .before .enum-test .ensures .1)
+inline-type-test-returns-7 t c = (c .tested-again4 .ensures ∙ c .before .enum-test .ensures .0 ∙ sym (enum-inline _ _ (type-opened _ _ _ _ (c .before .before .before .before .before .before .before .before .before .before .before .before .pre .1 .1 .0) (c .before .before .before .before .before .before .before .before .form-of .ensures)) (c .before .before .before .before .before .before .before .before .before .before .before .before .pre .1 .1 .0) (enum-meant (c .before .before .before .before .before .before .form .given .1 ∙ ap OfType (c .before .before .before .enum-told5 .given .1)))), c .before .enum-test .ensures .1)
 
 inline-type-test-returns-8 : Ask-inline-type-test inline-type-test-lts.Need-returns-8
-inline-type-test-returns-8 t c = (c .tested-again5 .ensures ∙ c .before .array-test .ensures .0 ∙ sym (array-inline _ _ (type-opened _ _ _ _ (c .before .before .before .before .before .before .before .before .before .before .before .before .pre .1 .1 .0) (c .before .before .before .before .before .before .before .before .form-of .ensures)) (c .before .before .before .before .before .before .before .before .before .before .before .before .pre .1 .1 .0) (array-meant (cc))), c .before .array-test .ensures .1)
+inline-type-test-returns-8 t c = (c .tested-again5 .ensures ∙ c .before .array-test .ensures .0 ∙ sym (array-inline _ _ (type-opened _ _ _ _ (c .before .before .before .before .before .before .before .before .before .before .before .before .pre .1 .1 .0) (c .before .before .before .before .before .before .before .before .form-of .ensures)) (c .before .before .before .before .before .before .before .before .before .before .before .before .pre .1 .1 .0) (array-meant (c .before .before .before .before .before .before .form .given .1 ∙ ap OfType (c .before .before .before .enum-told6 .given .1)))), c .before .array-test .ensures .1)
 
 inline-type-test-returns-9 : Ask-inline-type-test inline-type-test-lts.Need-returns-9
-inline-type-test-returns-9 t c = (sym (sizeUnion-size _ _ (type-opened _ _ _ _ (c .before .before .before .before .before .before .before .before .before .before .pre .1 .1 .0) (c .before .before .before .before .before .before .form-of .ensures)) (c .before .before .before .before .before .before .before .before .before .before .pre .1 .1 .0) (sizeUnion-meant (cc)) (c .if1 .left)), c .before .before .before .before .before .before .before .before .before .before .pre .1 .1 .1 .keeps)
+inline-type-test-returns-9 t c = (sym (sizeUnion-size _ _ (type-opened _ _ _ _ (c .before .before .before .before .before .before .before .before .before .before .pre .1 .1 .0) (c .before .before .before .before .before .before .form-of .ensures)) (c .before .before .before .before .before .before .before .before .before .before .pre .1 .1 .0) (sizeUnion-meant (c .before .before .before .before .form .given .1 ∙ ap OfType (c .before .enum-told7 .given .1))) (c .if1 .left)), c .before .before .before .before .before .before .before .before .before .before .pre .1 .1 .1 .keeps)
 
 abbrev members-test-Inv-loop : members-test-lts.InvT-loop
 members-test-Inv-loop s places count kept₀ jagged at depth kind n left form next₀ rest₀ kept next rest =

@@ -2,8 +2,10 @@
 use borrow.Author.Needs.{needs}
 use Rattle.writer.proofs.expr_shape.Statement.{statement}
 use Rattle.writer.proofs.expr_shape.Tie as tie
+use mathlib.Core.Path.{_∙_}
 use Rattle.bundle.specs.View.{exprFormMeant}
 use Rattle.writer.specs.Shapes.{shapedOf, shapeOf}
+use Rattle.writer.proofs.ShapeLaws.{bodies}
 
 no-part-requires : tie.Need-no-part-requires
 no-part-requires c κs = search needs
@@ -57,7 +59,7 @@ body-requires-5 c κs = search needs
 
 returns : tie.Need-returns
 unfolding shapedOf shapeOf exprFormMeant
-returns c = rw (c .before .before .before .form .given .1) cc
+returns c = rw (c .before .before .before .form .given .1) (c .body .ensures ∙ bodies (c .before .whole-part .ensures) (c .before .before .before .before .before .no-part .ensures) (c .before .before .before .before .before .no-part .ensures) (c .before .before .before .before .before .no-part .ensures))
 
 returns-2 : tie.Need-returns-2
 unfolding shapedOf shapeOf exprFormMeant
@@ -65,19 +67,19 @@ returns-2 c = rw (c .before .before .form2 .given .1) (c .path-shape .ensures)
 
 returns-3 : tie.Need-returns-3
 unfolding shapedOf shapeOf exprFormMeant
-returns-3 c = rw (c .before .before .enum-told .given .1) cc
+returns-3 c = rw (c .before .before .enum-told .given .1) (c .body2 .ensures ∙ bodies (c .before .name-part .ensures) (c .before .before .before .before .no-part .ensures) (c .before .before .before .before .no-part .ensures) (c .before .before .before .before .no-part .ensures))
 
 returns-4 : tie.Need-returns-4
 unfolding shapedOf shapeOf exprFormMeant
-returns-4 c = rw (c .before .before .enum-told2 .given .1) cc
+returns-4 c = rw (c .before .before .enum-told2 .given .1) (c .body3 .ensures ∙ bodies (c .before .name-part2 .ensures) (c .before .before .before .before .no-part .ensures) (c .before .before .before .before .no-part .ensures) (c .before .before .before .before .no-part .ensures))
 
 returns-5 : tie.Need-returns-5
 unfolding shapedOf shapeOf exprFormMeant
-returns-5 c = rw (c .before .enum-told3 .given .1) cc
+returns-5 c = rw (c .before .enum-told3 .given .1) (c .body4 .ensures ∙ bodies (c .before .before .before .no-part .ensures) (c .before .before .before .no-part .ensures) (c .before .before .before .no-part .ensures) (c .before .before .before .no-part .ensures))
 
 returns-6 : tie.Need-returns-6
 unfolding shapedOf shapeOf exprFormMeant
-returns-6 c = rw (c .before .enum-told4 .given .1) cc
+returns-6 c = rw (c .before .enum-told4 .given .1) (c .body5 .ensures ∙ bodies (c .before .before .before .no-part .ensures) (c .before .before .before .no-part .ensures) (c .before .before .before .no-part .ensures) (c .before .before .before .no-part .ensures))
 
 pub expr-shape-spec : {M : Type 1} → statement M
 expr-shape-spec =

@@ -2,10 +2,10 @@
 use borrow.Author.Needs.{needs}
 use Rattle.writer.proofs.record_shape.Statement.{statement}
 use Rattle.writer.proofs.record_shape.Tie as tie
-use mathlib.Core.Path.{_≡_}
+use mathlib.Core.Path.{_≡_, _∙_}
 use native.Mathlib.Omega.{arith}
 use Rattle.writer.specs.Shapes.{shapedOf, shapeOf}
-use Rattle.writer.proofs.ShapeLaws.{edge-fields}
+use Rattle.writer.proofs.ShapeLaws.{bodies, edge-fields}
 
 no-part-requires : tie.Need-no-part-requires
 no-part-requires c κs = search needs
@@ -42,15 +42,15 @@ body-requires-3 c κs = search needs
 
 returns : tie.Need-returns
 unfolding shapedOf shapeOf
-returns c = let e : c .before .before .before .before .before .before .args .kind ≡ 0x60 = omega arith in rw e cc
+returns c = let e : c .before .before .before .before .before .before .args .kind ≡ 0x60 = omega arith in rw e (c .body .ensures ∙ bodies (c .before .before .before .number-part .ensures) (c .before .before .number-part2 .ensures) (c .before .name-part .ensures) (c .before .before .before .before .before .no-part .ensures))
 
 returns-2 : tie.Need-returns-2
 unfolding shapedOf shapeOf
-returns-2 c = let e : c .before .before .before .before .args .kind ≡ 0x61 = omega arith in rw e cc
+returns-2 c = let e : c .before .before .before .before .args .kind ≡ 0x61 = omega arith in rw e (c .body2 .ensures ∙ bodies (c .before .name-part2 .ensures) (c .before .before .before .no-part .ensures) (c .before .before .before .no-part .ensures) (c .before .before .before .no-part .ensures))
 
 returns-3 : tie.Need-returns-3
 unfolding shapedOf shapeOf
-returns-3 c = rw (edge-fields (c .before .before .before .before .before .before .args .kind) (λ p. omega arith) (λ p. omega arith)) cc
+returns-3 c = rw (edge-fields (c .before .before .before .before .before .before .args .kind) (λ p. omega arith) (λ p. omega arith)) (c .body3 .ensures ∙ bodies (c .before .before .before .name-part3 .ensures) (c .before .before .name-part4 .ensures) (c .before .number-part3 .ensures) (c .before .before .before .before .before .no-part .ensures))
 
 pub record-shape-spec : {M : Type 1} → statement M
 record-shape-spec =

@@ -2,11 +2,12 @@
 use borrow.Author.Needs.{needs}
 use Rattle.writer.proofs.shape_of.Statement.{statement}
 use Rattle.writer.proofs.shape_of.Tie as tie
+use mathlib.Core.Path.{_∙_}
 use borrow.Author.Tests.{eq-eqb, ne-eqb}
 use native.Mathlib.Omega.{arith}
 use Rattle.bundle.specs.View.{formMeant}
 use Rattle.writer.specs.Shapes.{shapedOf, shapeOf}
-use Rattle.writer.proofs.ShapeLaws.{kind-sound}
+use Rattle.writer.proofs.ShapeLaws.{bodies, kind-sound}
 
 form-of-requires : tie.Need-form-of-requires
 form-of-requires c κs = search needs
@@ -77,11 +78,11 @@ returns-2 c = rw (← c .before .before .before .before .form-of .ensures, c .be
 
 returns-3 : tie.Need-returns-3
 unfolding shapedOf shapeOf formMeant
-returns-3 c = rw (← c .before .before .before .before .before .before .before .before .before .form-of .ensures, c .before .before .before .before .before .before .before .form3 .given .1, eq-eqb _ _ (c .before .before .before .before .before .if1 .taken)) cc
+returns-3 c = rw (← c .before .before .before .before .before .before .before .before .before .form-of .ensures, c .before .before .before .before .before .before .before .form3 .given .1, eq-eqb _ _ (c .before .before .before .before .before .if1 .taken)) (c .body .ensures ∙ bodies (c .before .before .before .before .name-part .ensures) (c .before .before .before .no-part .ensures) (c .before .before .no-part2 .ensures) (c .before .no-part3 .ensures))
 
 returns-4 : tie.Need-returns-4
 unfolding shapedOf shapeOf formMeant
-returns-4 c = rw (← c .before .before .before .before .before .before .before .before .before .form-of .ensures, c .before .before .before .before .before .before .before .form3 .given .1, ne-eqb _ _ (c .before .before .before .before .before .if1 .left)) cc
+returns-4 c = rw (← c .before .before .before .before .before .before .before .before .before .form-of .ensures, c .before .before .before .before .before .before .before .form3 .given .1, ne-eqb _ _ (c .before .before .before .before .before .if1 .left)) (c .body2 .ensures ∙ bodies (c .before .before .before .before .name-part2 .ensures) (c .before .before .before .whole-part .ensures) (c .before .before .no-part4 .ensures) (c .before .no-part5 .ensures))
 
 returns-5 : tie.Need-returns-5
 unfolding shapedOf shapeOf formMeant

@@ -2,9 +2,10 @@
 use borrow.Author.Needs.{needs}
 use Rattle.writer.proofs.type_shape.Statement.{statement}
 use Rattle.writer.proofs.type_shape.Tie as tie
+use mathlib.Core.Path.{refl, _∙_}
 use Rattle.bundle.specs.View.{typeFormMeant}
 use Rattle.writer.specs.Shapes.{shapedOf, shapeOf}
-use Rattle.writer.proofs.ShapeLaws.{group-fields}
+use Rattle.writer.proofs.ShapeLaws.{bodies, group-fields}
 
 no-part-requires : tie.Need-no-part-requires
 no-part-requires c κs = search needs
@@ -41,19 +42,19 @@ head-shape-requires-2 c κs = search needs
 
 returns : tie.Need-returns
 unfolding shapedOf shapeOf typeFormMeant
-returns c = rw (c .before .enum-told .given .1) cc
+returns c = rw (c .before .enum-told .given .1) (c .body .ensures ∙ bodies (c .before .before .before .no-part .ensures) (c .before .before .before .no-part .ensures) (c .before .before .before .no-part .ensures) (c .before .before .before .no-part .ensures))
 
 returns-2 : tie.Need-returns-2
 unfolding shapedOf shapeOf typeFormMeant
-returns-2 c = rw (c .before .before .enum-told2 .given .1) cc
+returns-2 c = rw (c .before .before .enum-told2 .given .1) (c .body2 .ensures ∙ bodies (c .before .name-part .ensures) (c .before .before .before .before .no-part .ensures) (c .before .before .before .before .no-part .ensures) (c .before .before .before .before .no-part .ensures))
 
 returns-3 : tie.Need-returns-3
 unfolding shapedOf shapeOf typeFormMeant
-returns-3 c = rw (c .before .before .enum-told3 .given .1) cc
+returns-3 c = rw (c .before .before .enum-told3 .given .1) (c .head-shape .ensures ∙ bodies refl refl (c .before .number-part .ensures) refl)
 
 returns-4 : tie.Need-returns-4
 unfolding shapedOf shapeOf
-returns-4 c = rw (group-fields (c .before .before .before .before .args .form) (c .before .before .match .keys4)) cc
+returns-4 c = rw (group-fields (c .before .before .before .before .args .form) (c .before .before .match .keys4)) (c .head-shape2 .ensures ∙ bodies refl refl (c .before .whole-part .ensures) refl)
 
 pub type-shape-spec : {M : Type 1} → statement M
 type-shape-spec =
