@@ -97,6 +97,37 @@ pub enum Answer {
     Refused(u8),
 }
 
+// The limits of a bundle: its bytes, the counts of its header, and the levels of a definition's type.
+pub const BYTE_LIMIT: usize = 32768;
+
+pub const DEFINITION_LIMIT: u16 = 256;
+
+pub const EDGE_LIMIT: u16 = 1024;
+
+pub const DEPTH_LIMIT: usize = 24;
+
+// The levels inside a definition's type.
+pub const DEPTH_INSIDE: usize = DEPTH_LIMIT - 1;
+
+// Lengths of lists: a place for each definition, each edge, each end of an edge, each name of the longest chain, each name.
+pub const DEFINITIONS: usize = DEFINITION_LIMIT as usize;
+
+pub const EDGES: usize = EDGE_LIMIT as usize;
+
+pub const ENDS: usize = 2 * EDGES;
+
+pub const CHAIN_LIMIT: usize = EDGES + 1;
+
+pub const NAMES: usize = 65536;
+
+// The length of `places`: for the definitions and one more, and behind them for each name.
+pub const PLACES: usize = DEFINITIONS + 1;
+
+pub const PLACES_BY_NAME: usize = PLACES + NAMES;
+
+// A bundle of so many bytes is short: lists with a place for each name would take longer to clear than to do without.
+pub const SHORT_BYTES: usize = 1024;
+
 const WIDTHS: [u8; 8] = [8, 4, 2, 1, 8, 4, 2, 1];
 
 // The form of a kind that is no type's.
@@ -416,7 +447,7 @@ fn definition_at(s: &[u8], at: usize) -> Step
     let form = form_of(0x61);
     let opened = opening_at(s, at, 0x61, form);
     match opened {
-        Step::Next(body) => type_at(s, body + 2, 24),
+        Step::Next(body) => type_at(s, body + 2, DEPTH_LIMIT),
         Step::Refused(k) => Step::Refused(k),
     }
 }
@@ -449,10 +480,10 @@ pub fn header_at(s: &[u8]) -> Counts
         Step::Next(body) => {
             let definitions = u16_at(s, body);
             let edges = u16_at(s, body + 2);
-            if 256 < definitions {
+            if DEFINITION_LIMIT < definitions {
                 return Counts::Bad(5);
             }
-            if 1024 < edges {
+            if EDGE_LIMIT < edges {
                 return Counts::Bad(5);
             }
             Counts::Each(definitions as usize, edges as usize, body + 6)
@@ -530,7 +561,7 @@ fn note_names(s: &[u8], count: usize, places: &mut [u16])
         i -= 1;
         let at = places[i] as usize;
         let name = u16_at(s, at - 2);
-        let place = 257 + (name as usize);
+        let place = PLACES + (name as usize);
         if place < places.len() {
             places[place] = i as u16;
         }
@@ -568,7 +599,7 @@ fn bundle_at(s: &[u8], places: &mut [u16]) -> Opening
     requires { ⌜ 256 < length (now places) ⌝ }
     ensures { λ r. ⌜ IsRead (now (s .entry)) (now (places .exit)) r ⌝ }
 {
-    if 32768 < s.len() {
+    if BYTE_LIMIT < s.len() {
         return Opening::Refused(1);
     }
     let header = header_at(s);
@@ -600,7 +631,7 @@ pub fn definition_of(s: &[u8], places: &[u16], count: usize, name: u16) -> usize
     requires { ⌜ Table (now s) count (now places) ⌝ }
     ensures { λ r. ⌜ r ≡ definitionOf (bundleOf (now (s .entry))) name ⌝ }
 {
-    let place = 257 + (name as usize);
+    let place = PLACES + (name as usize);
     if places.len() <= place {
         return scan_definitions(s, places, count, name);
     }
@@ -614,7 +645,13 @@ pub fn definition_of(s: &[u8], places: &[u16], count: usize, name: u16) -> usize
 
 // Whether every sequence of TypeRefs from definition `i` ends. `marks` has 0 for a definition that is not walked, 1 for one on the
 // way to this one, 2 for one that is walked.
-fn walk_definition(s: &[u8], places: &[u16], count: usize, marks: &mut [u8; 256], i: usize) -> bool
+fn walk_definition(
+    s: &[u8],
+    places: &[u16],
+    count: usize,
+    marks: &mut [u8; DEFINITIONS],
+    i: usize,
+) -> bool
     requires { ⌜ Table (now s) count (now places) × (i < count) × Marks (bundleOf (now s)) (i ∷ []) (now marks) ⌝ }
     ensures { λ r. ⌜ Decided (bundleOf (now (s .entry))) (i ∷ []) (now (marks .entry)) (now (marks .exit)) r ⌝ }
 {
@@ -627,7 +664,7 @@ fn walk_definition(s: &[u8], places: &[u16], count: usize, marks: &mut [u8; 256]
     }
     marks[i] = 1;
     let at = places[i] as usize;
-    let step = walk_type(s, places, count, marks, at, 24);
+    let step = walk_type(s, places, count, marks, at, DEPTH_LIMIT);
     match step {
         Step::Next(_) => {
             marks[i] = 2;
@@ -638,7 +675,13 @@ fn walk_definition(s: &[u8], places: &[u16], count: usize, marks: &mut [u8; 256]
 }
 
 // The same for the definition of the name at `at`, if there is one: the end of the name, or 8.
-fn walk_name(s: &[u8], places: &[u16], count: usize, marks: &mut [u8; 256], at: usize) -> Step
+fn walk_name(
+    s: &[u8],
+    places: &[u16],
+    count: usize,
+    marks: &mut [u8; DEFINITIONS],
+    at: usize,
+) -> Step
     requires { ⌜ (at + 2 ≤ length (now s)) × Table (now s) count (now places) × TypeToWalk (now s) (ok (typeRef (little (now s) at 2)) (at + 2)) (now marks) ⌝ }
     ensures { λ r. ⌜ TypeWalked (now (s .entry)) (ok (typeRef (little (now (s .entry)) at 2)) (at + 2)) (now (marks .entry)) (now (marks .exit)) r ⌝ }
 {
@@ -659,7 +702,7 @@ fn walk_type(
     s: &[u8],
     places: &[u16],
     count: usize,
-    marks: &mut [u8; 256],
+    marks: &mut [u8; DEFINITIONS],
     at: usize,
     depth: usize,
 ) -> Step
@@ -688,7 +731,7 @@ fn walk_group(
     s: &[u8],
     places: &[u16],
     count: usize,
-    marks: &mut [u8; 256],
+    marks: &mut [u8; DEFINITIONS],
     at: usize,
     depth: usize,
     kind: u8,
@@ -708,7 +751,7 @@ fn walk_enum(
     s: &[u8],
     places: &[u16],
     count: usize,
-    marks: &mut [u8; 256],
+    marks: &mut [u8; DEFINITIONS],
     at: usize,
     depth: usize,
 ) -> Step
@@ -736,7 +779,7 @@ fn walk_array(
     s: &[u8],
     places: &[u16],
     count: usize,
-    marks: &mut [u8; 256],
+    marks: &mut [u8; DEFINITIONS],
     at: usize,
     depth: usize,
 ) -> Step
@@ -761,7 +804,7 @@ fn walk_members(
     s: &[u8],
     places: &[u16],
     count: usize,
-    marks: &mut [u8; 256],
+    marks: &mut [u8; DEFINITIONS],
     at: usize,
     depth: usize,
     kind: u8,
@@ -793,7 +836,7 @@ fn circle(s: &[u8], places: &[u16], count: usize) -> bool
     requires { ⌜ Table (now s) count (now places) ⌝ }
     ensures { λ r. ⌜ r ≡ circles (bundleOf (now (s .entry))) ⌝ }
 {
-    let mut marks = [0u8; 256];
+    let mut marks = [0u8; DEFINITIONS];
     let mut i = 0;
     while i < count {
         if walk_definition(s, places, count, &mut marks, i) {
@@ -841,10 +884,10 @@ fn accept_with(bundle: &[u8], places: &mut [u16]) -> Answer
 pub fn accept(bundle: &[u8]) -> Answer
     ensures { λ r. ⌜ answerMeant r ≡ answerOf (acceptance (now (bundle .entry))) 0 ⌝ }
 {
-    if bundle.len() <= 1024 {
-        let mut places = [0u16; 257];
+    if bundle.len() <= SHORT_BYTES {
+        let mut places = [0u16; PLACES];
         return accept_with(bundle, &mut places);
     }
-    let mut places = [0u16; 65793];
+    let mut places = [0u16; PLACES_BY_NAME];
     accept_with(bundle, &mut places)
 }

@@ -17,6 +17,15 @@ ghost use Rattle.chain.specs.Members.{Members, PlaceOf, grown, Pushed, E
 ghost use Rattle.chain.specs.Index.{Numbering, numbered, Linked, Indexed, HasEnds, EndsBelow, Room, Prepared, Workspace, entryName};
 ghost use Rattle.chain.specs.Queue.{Holds, Added, Rising, chainTo, namesOf, Searching, AfterFollow, AfterSearch, Spent, MembersAfter, MembersLeft};
 
+// Few edges: lists for so many of them, and a table for the names below `FEW_NAMES`.
+pub const FEW_EDGES: usize = 64;
+
+pub const FEW_ENDS: usize = 2 * FEW_EDGES;
+
+pub const FEW_CHAIN: usize = FEW_EDGES + 1;
+
+pub const FEW_NAMES: usize = 256;
+
 // The answer to a search.
 pub enum Found {
     // There is no chain.
@@ -475,19 +484,19 @@ fn find_with(
     )
 }
 
-// The chain over at most 64 edges: short lists, and a table for the names below 256.
+// The chain over few edges, with short lists.
 fn find_few(bytes: &[u8], at: usize, count: usize, from: u16, to: u16, list: &mut [u16]) -> Found
     requires { ⌜ HasEdges (now bytes) at count × (count ≤ 64) ⌝ }
     ensures { λ r. ⌜ Answers (chainOf (graphAt (now (bytes .entry)) at count) from to) (now (list .entry)) (now (list .exit)) r ⌝ }
 {
-    let mut names = [0u16; 128];
-    let mut table = [0u16; 256];
-    let mut ends = [0u16; 128];
-    let mut first = [0u16; 128];
-    let mut next = [0u16; 64];
-    let mut queue = [0u16; 65];
-    let mut parents = [0u16; 65];
-    let mut places = [0u16; 128];
+    let mut names = [0u16; FEW_ENDS];
+    let mut table = [0u16; FEW_NAMES];
+    let mut ends = [0u16; FEW_ENDS];
+    let mut first = [0u16; FEW_ENDS];
+    let mut next = [0u16; FEW_EDGES];
+    let mut queue = [0u16; FEW_CHAIN];
+    let mut parents = [0u16; FEW_CHAIN];
+    let mut places = [0u16; FEW_ENDS];
     find_with(
         bytes,
         at,
@@ -506,19 +515,19 @@ fn find_few(bytes: &[u8], at: usize, count: usize, from: u16, to: u16, list: &mu
     )
 }
 
-// The chain over at most 1,024 edges, with a table for every name.
+// The chain over the edges of any bundle, with a table for every name.
 fn find_many(bytes: &[u8], at: usize, count: usize, from: u16, to: u16, list: &mut [u16]) -> Found
     requires { ⌜ HasEdges (now bytes) at count ⌝ }
     ensures { λ r. ⌜ Answers (chainOf (graphAt (now (bytes .entry)) at count) from to) (now (list .entry)) (now (list .exit)) r ⌝ }
 {
-    let mut names = [0u16; 2048];
-    let mut table = [0u16; 65536];
-    let mut ends = [0u16; 2048];
-    let mut first = [0u16; 2048];
-    let mut next = [0u16; 1024];
-    let mut queue = [0u16; 1025];
-    let mut parents = [0u16; 1025];
-    let mut places = [0u16; 2048];
+    let mut names = [0u16; bundle::ENDS];
+    let mut table = [0u16; bundle::NAMES];
+    let mut ends = [0u16; bundle::ENDS];
+    let mut first = [0u16; bundle::ENDS];
+    let mut next = [0u16; bundle::EDGES];
+    let mut queue = [0u16; bundle::CHAIN_LIMIT];
+    let mut parents = [0u16; bundle::CHAIN_LIMIT];
+    let mut places = [0u16; bundle::ENDS];
     find_with(
         bytes,
         at,
@@ -557,7 +566,7 @@ fn answer_for(found: Found, size: usize) -> bundle::Answer
 fn chain_long(bytes: &[u8], from: u16, to: u16, list: &mut [u16]) -> bundle::Answer
     ensures { λ r. ⌜ Call (chaining from to (now (bytes .entry))) (now (list .entry)) (now (list .exit)) (answerMeant r) ⌝ }
 {
-    let mut places = [0u16; 65793];
+    let mut places = [0u16; bundle::PLACES_BY_NAME];
     let opening = bundle::open(bytes, &mut places);
     match opening {
         bundle::Opening::Opened(layout) => {
@@ -578,14 +587,14 @@ pub fn find_layout_dependency_chain(
 ) -> bundle::Answer
     ensures { λ r. ⌜ Call (chaining from to (now (bytes .entry))) (now (list .entry)) (now (list .exit)) (answerMeant r) ⌝ }
 {
-    if 1024 < bytes.len() {
+    if bundle::SHORT_BYTES < bytes.len() {
         return chain_long(bytes, from, to, list);
     }
-    let mut places = [0u16; 257];
+    let mut places = [0u16; bundle::PLACES];
     let opening = bundle::open(bytes, &mut places);
     match opening {
         bundle::Opening::Opened(layout) => {
-            if 64 < layout.edges {
+            if FEW_EDGES < layout.edges {
                 return chain_long(bytes, from, to, list);
             }
             let found = find_few(bytes, layout.edges_at, layout.edges, from, to, list);

@@ -192,7 +192,13 @@ fn check_enum_forward_reference_in_same_struct(
 }
 
 // Whether the size of the first definition of the name depends on field references. `kept` has the size test's answers.
-fn size_depends(s: &[u8], places: &[u16], count: usize, kept: &mut [u8; 256], name: u16) -> bool
+fn size_depends(
+    s: &[u8],
+    places: &[u16],
+    count: usize,
+    kept: &mut [u8; bundle::DEFINITIONS],
+    name: u16,
+) -> bool
     requires { ⌜ Table (now s) count (now places) × Acyclic (now s) × Kept (now s) false (now kept) ⌝ }
     ensures { λ r. ⌜ (r ≡ holds (namedSizeDepends (bundleOf (now (s .entry)))) (findType (bundleOf (now (s .entry))) name)) × Kept (now (s .entry)) false (now (kept .exit)) ⌝ }
 {
@@ -208,7 +214,7 @@ pub fn check_enum_tag_layout_cycle(
     s: &[u8],
     places: &[u16],
     layout: Layout,
-    kept: &mut [u8; 256],
+    kept: &mut [u8; bundle::DEFINITIONS],
     name: u16,
     path: usize,
     names: &[u16],
@@ -342,7 +348,7 @@ fn check_forward_reference(
     s: &[u8],
     places: &[u16],
     layout: Layout,
-    kept: &mut [u8; 256],
+    kept: &mut [u8; bundle::DEFINITIONS],
     name: u16,
     j: usize,
     i: usize,
@@ -364,13 +370,13 @@ fn check_forward_reference(
         return false;
     }
     let place = fields::place_of(s, places, layout.definitions, i);
-    if sizes::is_enum_with_constant_size_variants(s, place.at, 24) {
+    if sizes::is_enum_with_constant_size_variants(s, place.at, bundle::DEPTH_LIMIT) {
         return false;
     }
     if sizes::type_size_depends_on_field_refs(s, places, layout.definitions, kept, i) {
         return true;
     }
-    sizes::type_needs_field_ref_for_layout(s, place.at, 24, path)
+    sizes::type_needs_field_ref_for_layout(s, place.at, bundle::DEPTH_LIMIT, path)
 }
 
 // The first such reference from `from` to `end`.
@@ -378,7 +384,7 @@ fn find_forward_reference(
     s: &[u8],
     places: &[u16],
     layout: Layout,
-    kept: &mut [u8; 256],
+    kept: &mut [u8; bundle::DEFINITIONS],
     name: u16,
     j: usize,
     i: usize,
@@ -408,7 +414,7 @@ fn find_forward(
     s: &[u8],
     places: &[u16],
     layout: Layout,
-    kept: &mut [u8; 256],
+    kept: &mut [u8; bundle::DEFINITIONS],
     name: u16,
     j: usize,
     i: usize,
@@ -427,7 +433,7 @@ pub fn check_field_layout_dependency(
     s: &[u8],
     places: &[u16],
     layout: Layout,
-    kept: &mut [u8; 256],
+    kept: &mut [u8; bundle::DEFINITIONS],
     name: u16,
     j: usize,
     field: Field,
@@ -438,7 +444,7 @@ pub fn check_field_layout_dependency(
     ensures { λ r. ⌜ ((v : ℕ) → Checked (now (s .entry)) name (now (list .exit)) r (λ i. checkFieldLayoutDependency (bundleOf (now (s .entry))) i name (j, member (field .name) v (typeAt 23 (now (s .entry)) (field .at))))) × Kept (now (s .entry)) false (now (kept .exit)) ⌝ }
 {
     let count = layout.definitions;
-    let shape = fields::shape_at(s, field.at, 23);
+    let shape = fields::shape_at(s, field.at, bundle::DEPTH_INSIDE);
     let Shape::TypeRef(n) = shape else {
         return Check::Fine;
     };
@@ -467,7 +473,7 @@ fn is_no_struct(s: &[u8], places: &[u16], count: usize, name: u16) -> bool
     let Definition::At(_, at) = found else {
         return false;
     };
-    let shape = fields::shape_at(s, at, 24);
+    let shape = fields::shape_at(s, at, bundle::DEPTH_LIMIT);
     let Shape::Struct(_) = shape else {
         return true;
     };
@@ -486,7 +492,7 @@ fn check_jagged_element_kind(
     requires { ⌜ Table (now s) count (now places) × Reads (readTy 23 (now s) at) × (1025 ≤ length (now list)) ⌝ }
     ensures { λ r. ⌜ Checked (now (s .entry)) name (now (list .exit)) r (λ i. checkJaggedElementKind (bundleOf (now (s .entry))) i name (typeAt 23 (now (s .entry)) at)) ⌝ }
 {
-    let shape = fields::shape_at(s, at, 23);
+    let shape = fields::shape_at(s, at, bundle::DEPTH_INSIDE);
     match shape {
         Shape::Struct(_) => Check::Fine,
         Shape::TypeRef(n) => {
@@ -516,7 +522,7 @@ fn check_jagged_array_constraints(
     s: &[u8],
     places: &[u16],
     count: usize,
-    nested: &mut [u8; 256],
+    nested: &mut [u8; bundle::DEFINITIONS],
     name: u16,
     at: usize,
     list: &mut [u16],
@@ -529,7 +535,7 @@ fn check_jagged_array_constraints(
     let Check::Fine = kind else {
         return kind;
     };
-    if !sizes::type_contains_jagged_array(s, places, count, nested, at, 23) {
+    if !sizes::type_contains_jagged_array(s, places, count, nested, at, bundle::DEPTH_INSIDE) {
         return Check::Fine;
     }
     set_chain(list, name, 0, 0);
@@ -542,8 +548,8 @@ pub fn check_array_element_type_size(
     s: &[u8],
     places: &[u16],
     count: usize,
-    kept: &mut [u8; 256],
-    nested: &mut [u8; 256],
+    kept: &mut [u8; bundle::DEFINITIONS],
+    nested: &mut [u8; bundle::DEFINITIONS],
     name: u16,
     jagged: u8,
     at: usize,
@@ -556,7 +562,14 @@ pub fn check_array_element_type_size(
     if jagged == 1 {
         return check_jagged_array_constraints(s, places, count, nested, name, at, list);
     }
-    if !sizes::type_size_depends_on_field_refs_recursive(s, places, count, kept, at, 23) {
+    if !sizes::type_size_depends_on_field_refs_recursive(
+        s,
+        places,
+        count,
+        kept,
+        at,
+        bundle::DEPTH_INSIDE,
+    ) {
         return Check::Fine;
     }
     set_chain(list, name, 0, 0);

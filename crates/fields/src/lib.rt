@@ -213,11 +213,11 @@ fn contains(s: &[u8], place: Place, name: u16, container: u16) -> bool
     if place.name != container {
         return false;
     }
-    let shape = shape_at(s, place.at, 24);
+    let shape = shape_at(s, place.at, bundle::DEPTH_LIMIT);
     let Shape::Struct(n) = shape else {
         return false;
     };
-    0 < last_field(s, place.at + 12, 23, n, true, name)
+    0 < last_field(s, place.at + 12, bundle::DEPTH_INSIDE, n, true, name)
 }
 
 // Whether some definition of the name `container`, from the first on, is a struct with a field that is a TypeRef to the enum.
@@ -276,7 +276,7 @@ fn struct_of(s: &[u8], places: &[u16], count: usize, name: u16) -> Fields
     let Definition::At(_, at) = found else {
         return Fields::No;
     };
-    let shape = shape_at(s, at, 24);
+    let shape = shape_at(s, at, bundle::DEPTH_LIMIT);
     let Shape::Struct(n) = shape else {
         return Fields::No;
     };
@@ -300,8 +300,8 @@ pub fn stands_before(
     let Fields::Of(at, n) = fields else {
         return false;
     };
-    let held = last_field(s, at, 23, n, true, name);
-    let named = last_field(s, at, 23, n, false, field);
+    let held = last_field(s, at, bundle::DEPTH_INSIDE, n, true, name);
+    let named = last_field(s, at, bundle::DEPTH_INSIDE, n, false, field);
     if held == 0 {
         return false;
     }
@@ -324,7 +324,7 @@ pub fn stands_after(
     let Fields::Of(at, n) = fields else {
         return false;
     };
-    let named = first_field(s, at, 23, n, false, field);
+    let named = first_field(s, at, bundle::DEPTH_INSIDE, n, false, field);
     if named == n {
         return false;
     }
@@ -340,5 +340,5 @@ pub fn has_constant_size_variants(s: &[u8], places: &[u16], count: usize, name: 
     let Definition::At(_, at) = found else {
         return false;
     };
-    sizes::is_enum_with_constant_size_variants(s, at, 24)
+    sizes::is_enum_with_constant_size_variants(s, at, bundle::DEPTH_LIMIT)
 }

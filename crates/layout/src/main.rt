@@ -12,10 +12,10 @@ ghost use Rattle.bundle.specs.Opened.{answerMeant};
 ghost use Rattle.layout.specs.Response.{refusalBytes, responseTo, linesTo, answerTo, Holds};
 
 // Room for the longest bundle and one byte more.
-fn input_buffer() -> [u8; 32769]
+fn input_buffer() -> [u8; bundle::BYTE_LIMIT + 1]
     ensures { λ r. ⌜ 32769 ≡ length r ⌝ }
 {
-    [0; 32769]
+    [0; bundle::BYTE_LIMIT + 1]
 }
 
 // Puts 7E and the number of a refusal into the first places of `out`. Returns how many bytes that are, as all functions here do.
@@ -62,7 +62,7 @@ fn respond_chain(bundle: &[u8], from: u16, to: u16, out: &mut [u8]) -> usize
     requires { ⌜ 6150 ≤ length (now out) ⌝ }
     ensures { λ r. ⌜ Holds (linesTo (chaining from to (now (bundle .entry)))) (now (out .exit)) r ⌝ }
 {
-    let mut list = [0u16; 1025];
+    let mut list = [0u16; bundle::CHAIN_LIMIT];
     let answer = chain::find_layout_dependency_chain(bundle, from, to, &mut list);
     match answer {
         Answer::Accepted(n) => decimal::write_names(&list, n, out),

@@ -1,5 +1,4 @@
 -- A chain between renamed names over renamed edges is the renamed chain.
--- Assumes nothing.
 use Prim.Native.Nat.{ℕ, zero, suc, _≤_, _<_}
 use mathlib.Core.Path.{_≡_, refl, ap, ap₂, _∙_}
 use mathlib.Core.List.{List, [], _∷_, map, map-id}

@@ -2,7 +2,6 @@
 --     settled-step, settled-more      one step needs one less; more is enough too
 --     circles-iff                     the law
 --     settled-of                      where nothing circles, every definition is settled at the count of definitions
--- Assumes nothing.
 use Prim.Native.Nat.{ℕ, zero, suc, _≤_, _<_}
 use mathlib.Core.Path.{_≡_, refl, ap}
 use mathlib.Core.Logic.{_↔_, _⊎_, inl, inr}

@@ -1,5 +1,4 @@
 -- A bundle has fewer violations than bytes, so a report's count of two bytes is exact.
--- Assumes nothing.
 use Prim.Native.Nat.{ℕ, suc, _+_, _≤_, _<_}
 use mathlib.Core.Path.{_≡_, refl, ap}
 use mathlib.Core.List.{List, [], _∷_, _++_}

@@ -1,7 +1,6 @@
 -- What is read where some levels are left is read alike where more are left.
 --     Refines                one reader reads all that another does, alike
 --     expr-deeper, type-deeper      the laws
--- Assumes nothing.
 use Prim.Native.Nat.{ℕ, zero, suc, _≤_}
 use native.Mathlib.Nat.{not-suc-le-zero, le-of-suc-le-suc}
 use native.Mathlib.Omega.{arith}

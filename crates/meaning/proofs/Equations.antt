@@ -1,5 +1,4 @@
 -- The Rust's own equations of the size tests and of the jagged test, with no fuel in them, for bundles in which nothing circles.
--- Assumes nothing.
 use Prim.Native.Nat.{ℕ}
 use mathlib.Core.Path.{_≡_, refl, ap}
 use mathlib.Core.Bool.{Bool, true, false, not, _&&_, _||_}

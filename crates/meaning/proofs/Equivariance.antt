@@ -4,7 +4,6 @@
 --     circles-exchange      an exchange keeps circles
 --     report-exchange       the report of the exchanged bundle is the report with its names exchanged
 --     violations-renumbered, circles-renumbered, report-renumbered    the same of the renumbering
--- Assumes nothing.
 use Prim.Native.Nat.{ℕ, zero, suc, _+_, _-_, _*_, _≤_, _<_}
 use mathlib.Core.Path.{_≡_, refl, sym, ap, ap₂, _∙_}
 use mathlib.Core.Logic.{_⊎_, inl, inr}

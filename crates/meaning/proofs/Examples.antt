@@ -1,5 +1,4 @@
 -- Document 01's marked examples that speak of trees, and its example report, each by computation.
--- Assumes nothing.
 use Prim.Native.Nat.{ℕ}
 use mathlib.Core.Path.{_≡_, refl}
 use mathlib.Core.List.{List, [], _∷_}

@@ -1,7 +1,6 @@
 -- A map of all numbers that sends no two to the same is seen by nothing in the checks: lookups, circles, tests, violations.
 --     circles-injective       it keeps circles
 --     violations-injective    it maps the violations name by name
--- Assumes nothing.
 use Prim.Native.Nat.{ℕ, zero, suc, _<_}
 use mathlib.Core.Path.{_≡_, refl, sym, ap, ap₂, _∙_, fun-ext}
 use mathlib.Core.List.{List, [], _∷_, map, map-map}

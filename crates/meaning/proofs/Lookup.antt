@@ -1,6 +1,5 @@
 -- The lookups as loops over the definitions.
 --     findType-first     the first definition of a name, by going through the definitions
--- Assumes nothing.
 use Prim.Native.Nat.{ℕ, suc}
 use mathlib.Core.Path.{_≡_, refl, sym}
 use mathlib.Core.List.{List, [], _∷_, map}

@@ -1,6 +1,5 @@
 -- Where a reference stands inside a named type, the size of that type depends on it or its layout needs it, unless the type is
 -- an array of constant size. So code for violation type 4 need not compare references (a remark of proofs only: specs/ follows the Rust).
--- Assumes nothing.
 use Prim.Native.Nat.{ℕ}
 use mathlib.Core.Path.{_≡_, refl, ap, ap₂}
 use mathlib.Core.Logic.{_⊎_, inl, inr}

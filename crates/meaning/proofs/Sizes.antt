@@ -2,7 +2,6 @@
 --     Reads                  a test looks at the names that the type leads to, and at no other
 --     within-enough          what is settled has the same answer from then on
 --     answer-equation        the law; named-equation and jagged-equation are its two uses
--- Assumes nothing.
 use Prim.Native.Nat.{ℕ, zero, suc, _≤_, _<_}
 use mathlib.Core.Path.{_≡_, refl, sym, ap, ap₂, _∙_}
 use mathlib.Core.List.{List, _++_, map, List·Memᴰ, List·Memᴰ·head, Memᴰ·append-left, Memᴰ·append-right}

@@ -1,5 +1,4 @@
 -- Trees with every name put through a map: what stays, and what changes name by name.
--- Assumes nothing.
 use Prim.Native.Nat.{ℕ}
 use mathlib.Core.Path.{_≡_, refl, ap, ap₂, _∙_}
 use mathlib.Core.List.{List, [], _∷_, map}

@@ -1,5 +1,4 @@
 -- Where TypeRefs lead, and whether they circle (document 01, "Bundle records": refusal 8).
--- Assumes nothing.
 use Prim.Native.Nat.{ℕ, zero, suc}
 use mathlib.Core.List.{List, [], _∷_, _++_, List·Memᴰ}
 use mathlib.Core.Bool.{Bool, false, not, cond}

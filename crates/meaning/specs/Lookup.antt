@@ -1,5 +1,4 @@
 -- How the checks find definitions and fields, and what a written field reference means (document 01, "References in expressions").
--- Assumes nothing.
 use Prim.Native.Nat.{ℕ}
 use mathlib.Core.List.{List, [], _∷_, map}
 use mathlib.Core.Bool.{Bool, true, false}

@@ -1,5 +1,4 @@
 -- The field references inside expressions and types, and which expressions are constant (document 01, "References in expressions").
--- Assumes nothing.
 use Prim.Native.Nat.{ℕ}
 use mathlib.Core.List.{List, [], _∷_, _++_}
 use mathlib.Core.Bool.{Bool, true, false, _&&_}

@@ -1,5 +1,4 @@
 -- The names of a bundle, and a bundle with every name put through a map (document 01, "Renumbering").
--- Assumes nothing.
 use Prim.Native.Nat.{ℕ}
 use mathlib.Core.List.{List, [], _∷_, _++_, map}
 use Rattle.meaning.specs.Tree.{Expr, literal, fieldRef, sizeof, alignof, binary, unary, Ty, primitive, typeRef, struct, union, enum, array, sizeUnion, Member, member, Members, more, Definition, Edge, Bundle}

@@ -1,5 +1,4 @@
 -- The report (document 01, "Validators and report"), as bytes with names at known places (names' Documents.antt).
--- Assumes nothing.
 use Prim.Native.Nat.{ℕ, _+_, _-_, _*_, _/_, _%_}
 use mathlib.Core.List.{List, [], _∷_, _++_, map}
 use lib.ListN.{length, replicate}

@@ -1,6 +1,5 @@
 -- Size dependence and jagged nesting (document 01, "Size dependence and jagged nesting").
 -- Each test asks of a name only what `known` says of its first definition, and `answer` is what it is then given.
--- Assumes nothing.
 use Prim.Native.Nat.{ℕ, zero, suc, _-_}
 use mathlib.Core.List.{List, [], _∷_}
 use mathlib.Core.Bool.{Bool, true, false, not, _&&_, _||_}

@@ -1,6 +1,5 @@
 -- The checks of each definition and what they find (document 01, "Validators and report" and "Traps").
 -- In each check b is the bundle, i the number of the definition that is checked, and e, a or s its name.
--- Assumes nothing.
 use Prim.Native.Nat.{ℕ}
 use mathlib.Core.List.{List, [], _∷_, map}
 use mathlib.Core.Bool.{Bool, false, not, cond, _&&_, _||_}

@@ -1,5 +1,4 @@
 -- Renumbering goes from front to back, item by item.
--- Assumes nothing.
 use mathlib.Core.Path.{_≡_, refl, ap, ap₂, _∙_}
 use mathlib.Core.List.{List, [], _∷_, _++_, append-nil, List·Memᴰ·tail}
 use Prim.Native.Nat.{ℕ, _/_, _%_}

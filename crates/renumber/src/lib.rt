@@ -119,7 +119,7 @@ fn renumber_in(bundle: &[u8], places: &mut [u16], out: &mut [u8]) -> Answer
             if out.len() < bundle.len() {
                 return Answer::Refused(9);
             }
-            let mut table = [0u16; 65536];
+            let mut table = [0u16; bundle::NAMES];
             scan(bundle, out, &mut table);
             Answer::Accepted(bundle.len())
         }
@@ -132,10 +132,10 @@ fn renumber_in(bundle: &[u8], places: &mut [u16], out: &mut [u8]) -> Answer
 pub fn renumber(bundle: &[u8], out: &mut [u8]) -> Answer
     ensures { λ r. ⌜ Call (renumbering (now (bundle .entry))) (now (out .entry)) (now (out .exit)) (answerMeant r) ⌝ }
 {
-    if bundle.len() <= 1024 {
-        let mut places = [0u16; 257];
+    if bundle.len() <= bundle::SHORT_BYTES {
+        let mut places = [0u16; bundle::PLACES];
         return renumber_in(bundle, &mut places, out);
     }
-    let mut places = [0u16; 65793];
+    let mut places = [0u16; bundle::PLACES_BY_NAME];
     renumber_in(bundle, &mut places, out)
 }

@@ -20,6 +20,9 @@ ghost use Rattle.chain.specs.Index.{Room, Workspace};
 ghost use Rattle.checks.specs.Checks.{EdgesPrepared};
 ghost use Rattle.violation.specs.Records.{Puts};
 
+// The bytes of a draft.
+const DRAFT: usize = 1024;
+
 // Copies the places from 3 to `end` of a draft.
 fn copy_records(draft: &[u8], end: usize, out: &mut [u8])
     requires { ⌜ (3 ≤ end) × (end ≤ length (now draft)) × (end ≤ 1024) ⌝ }
@@ -37,8 +40,8 @@ fn write_report(
     s: &[u8],
     places: &[u16],
     layout: Layout,
-    kept: &mut [u8; 256],
-    nested: &mut [u8; 256],
+    kept: &mut [u8; bundle::DEFINITIONS],
+    nested: &mut [u8; bundle::DEFINITIONS],
     names: &[u16],
     table: &[u16],
     ends: &[u16],
@@ -58,7 +61,7 @@ fn write_report(
     ensures { λ r. ⌜ Call (result (report (bundleOf (now (s .entry))))) (now (out .entry)) (now (out .exit)) (answerMeant r) ⌝ }
 {
     let start = Position { at: 3, count: 0 };
-    let mut draft = [0u8; 1024];
+    let mut draft = [0u8; DRAFT];
     let counted = validate::validate_layout_constraints(
         s,
         places,
@@ -83,7 +86,7 @@ fn write_report(
     }
     let second = violation::put_byte(out, 0, 0x70);
     violation::put_two(out, second, counted.count as u16);
-    if counted.at <= 1024 {
+    if counted.at <= DRAFT {
         copy_records(&draft, counted.at, out);
         return Answer::Accepted(counted.at);
     }
@@ -128,9 +131,9 @@ fn report_with(
     requires { ⌜ LayoutOf (now s) layout (now places) × (circles (bundleOf (now s)) ≡ false) ⌝ }
     ensures { λ r. ⌜ Call (result (report (bundleOf (now (s .entry))))) (now (out .entry)) (now (out .exit)) (answerMeant r) ⌝ }
 {
-    let mut kept = [0u8; 256];
-    let mut nested = [0u8; 256];
-    let mut list = [0u16; 1025];
+    let mut kept = [0u8; bundle::DEFINITIONS];
+    let mut nested = [0u8; bundle::DEFINITIONS];
+    let mut list = [0u16; bundle::CHAIN_LIMIT];
     let m = chain::prepare(
         s,
         layout.edges_at,
@@ -161,20 +164,20 @@ fn report_with(
     )
 }
 
-// The report of an opened bundle with at most 64 edges: short lists, and a table for the names below 256.
+// The report of an opened bundle with few edges, with short lists.
 fn report_few(s: &[u8], places: &[u16], layout: Layout, out: &mut [u8]) -> Answer
     requires { ⌜ layout .edges ≤ 64 ⌝ }
     requires { ⌜ LayoutOf (now s) layout (now places) × (circles (bundleOf (now s)) ≡ false) ⌝ }
     ensures { λ r. ⌜ Call (result (report (bundleOf (now (s .entry))))) (now (out .entry)) (now (out .exit)) (answerMeant r) ⌝ }
 {
-    let mut names = [0u16; 128];
-    let mut table = [0u16; 256];
-    let mut ends = [0u16; 128];
-    let mut first = [0u16; 128];
-    let mut links = [0u16; 64];
-    let mut queue = [0u16; 65];
-    let mut parents = [0u16; 65];
-    let mut marks = [0u16; 128];
+    let mut names = [0u16; chain::FEW_ENDS];
+    let mut table = [0u16; chain::FEW_NAMES];
+    let mut ends = [0u16; chain::FEW_ENDS];
+    let mut first = [0u16; chain::FEW_ENDS];
+    let mut links = [0u16; chain::FEW_EDGES];
+    let mut queue = [0u16; chain::FEW_CHAIN];
+    let mut parents = [0u16; chain::FEW_CHAIN];
+    let mut marks = [0u16; chain::FEW_ENDS];
     report_with(
         s,
         places,
@@ -196,14 +199,14 @@ fn report_many(s: &[u8], places: &[u16], layout: Layout, out: &mut [u8]) -> Answ
     requires { ⌜ LayoutOf (now s) layout (now places) × (circles (bundleOf (now s)) ≡ false) ⌝ }
     ensures { λ r. ⌜ Call (result (report (bundleOf (now (s .entry))))) (now (out .entry)) (now (out .exit)) (answerMeant r) ⌝ }
 {
-    let mut names = [0u16; 2048];
-    let mut table = [0u16; 65536];
-    let mut ends = [0u16; 2048];
-    let mut first = [0u16; 2048];
-    let mut links = [0u16; 1024];
-    let mut queue = [0u16; 1025];
-    let mut parents = [0u16; 1025];
-    let mut marks = [0u16; 2048];
+    let mut names = [0u16; bundle::ENDS];
+    let mut table = [0u16; bundle::NAMES];
+    let mut ends = [0u16; bundle::ENDS];
+    let mut first = [0u16; bundle::ENDS];
+    let mut links = [0u16; bundle::EDGES];
+    let mut queue = [0u16; bundle::CHAIN_LIMIT];
+    let mut parents = [0u16; bundle::CHAIN_LIMIT];
+    let mut marks = [0u16; bundle::ENDS];
     report_with(
         s,
         places,
@@ -224,7 +227,7 @@ fn report_many(s: &[u8], places: &[u16], layout: Layout, out: &mut [u8]) -> Answ
 fn report_long(bundle: &[u8], out: &mut [u8]) -> Answer
     ensures { λ r. ⌜ Call (reporting (now (bundle .entry))) (now (out .entry)) (now (out .exit)) (answerMeant r) ⌝ }
 {
-    let mut places = [0u16; 65793];
+    let mut places = [0u16; bundle::PLACES_BY_NAME];
     let opening = bundle::open(bundle, &mut places);
     match opening {
         Opening::Opened(layout) => report_many(bundle, &places, layout, out),
@@ -238,14 +241,14 @@ fn report_long(bundle: &[u8], out: &mut [u8]) -> Answer
 pub fn report(bundle: &[u8], out: &mut [u8]) -> Answer
     ensures { λ r. ⌜ Call (reporting (now (bundle .entry))) (now (out .entry)) (now (out .exit)) (answerMeant r) ⌝ }
 {
-    if 1024 < bundle.len() {
+    if bundle::SHORT_BYTES < bundle.len() {
         return report_long(bundle, out);
     }
-    let mut places = [0u16; 257];
+    let mut places = [0u16; bundle::PLACES];
     let opening = bundle::open(bundle, &mut places);
     match opening {
         Opening::Opened(layout) => {
-            if layout.edges <= 64 {
+            if layout.edges <= chain::FEW_EDGES {
                 report_few(bundle, &places, layout, out)
             } else {
                 report_long(bundle, out)

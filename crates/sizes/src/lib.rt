@@ -62,7 +62,7 @@ fn type_end(s: &[u8], at: usize, t: TypeForm) -> usize
         TypeForm::Enum => at + 12,
         TypeForm::Array => at + 11,
         TypeForm::SizeUnion => {
-            let step = bundle::type_at(s, at, 24);
+            let step = bundle::type_at(s, at, bundle::DEPTH_LIMIT);
             match step {
                 Step::Next(next) => next,
                 Step::Refused(_) => at + 1,
@@ -414,7 +414,7 @@ fn named_type_test(
     s: &[u8],
     places: &[u16],
     count: usize,
-    kept: &mut [u8; 256],
+    kept: &mut [u8; bundle::DEFINITIONS],
     jagged: bool,
     i: usize,
     left: usize,
@@ -450,7 +450,7 @@ fn definition_test(
     s: &[u8],
     places: &[u16],
     count: usize,
-    kept: &mut [u8; 256],
+    kept: &mut [u8; bundle::DEFINITIONS],
     jagged: bool,
     at: usize,
     left: usize,
@@ -459,7 +459,16 @@ fn definition_test(
     ensures { λ r. ⌜ NamedTested (now (s .entry)) jagged (readTy 24 (now (s .entry)) at) (now (kept .exit)) r ⌝ }
 {
     if jagged {
-        return is_holds(inline_type_test(s, places, count, kept, jagged, at, 24, left));
+        return is_holds(inline_type_test(
+            s,
+            places,
+            count,
+            kept,
+            jagged,
+            at,
+            bundle::DEPTH_LIMIT,
+            left,
+        ));
     }
     let kind = s[at];
     let form = bundle::form_of(kind);
@@ -476,12 +485,21 @@ fn definition_test(
             kept,
             jagged,
             at,
-            24,
+            bundle::DEPTH_LIMIT,
             left,
         )),
-        TypeForm::Union => is_holds(inline_type_test(s, places, count, kept, jagged, at, 24, left)),
+        TypeForm::Union => is_holds(inline_type_test(
+            s,
+            places,
+            count,
+            kept,
+            jagged,
+            at,
+            bundle::DEPTH_LIMIT,
+            left,
+        )),
         TypeForm::Enum => enum_definition_test(s, places, count, kept, jagged, at + 1, left),
-        TypeForm::Array => !is_constant(s, at + 11, 23),
+        TypeForm::Array => !is_constant(s, at + 11, bundle::DEPTH_INSIDE),
         TypeForm::SizeUnion => true,
     }
 }
@@ -492,7 +510,7 @@ fn enum_definition_test(
     s: &[u8],
     places: &[u16],
     count: usize,
-    kept: &mut [u8; 256],
+    kept: &mut [u8; bundle::DEFINITIONS],
     jagged: bool,
     at: usize,
     left: usize,
@@ -504,18 +522,29 @@ fn enum_definition_test(
     let Count::Of(n, next) = head else {
         return false;
     };
-    let tag = bundle::expr_at(s, next, 23);
+    let tag = bundle::expr_at(s, next, bundle::DEPTH_INSIDE);
     let Step::Next(after) = tag else {
         return false;
     };
-    let tested = members_test(s, places, count, kept, jagged, after, 23, 0x52, n, left);
+    let tested = members_test(
+        s,
+        places,
+        count,
+        kept,
+        jagged,
+        after,
+        bundle::DEPTH_INSIDE,
+        0x52,
+        n,
+        left,
+    );
     if is_holds(tested) {
         return true;
     }
-    if one_size(s, after, 23, n) {
+    if one_size(s, after, bundle::DEPTH_INSIDE, n) {
         return false;
     }
-    !is_constant_to(s, next, after, 23)
+    !is_constant_to(s, next, after, bundle::DEPTH_INSIDE)
 }
 
 // The same answer, made anew: handed on as it comes, the compiled code would keep it in memory and wait for it.
@@ -533,7 +562,7 @@ fn inline_type_test(
     s: &[u8],
     places: &[u16],
     count: usize,
-    kept: &mut [u8; 256],
+    kept: &mut [u8; bundle::DEFINITIONS],
     jagged: bool,
     at: usize,
     depth: usize,
@@ -615,7 +644,7 @@ fn reference_test(
     s: &[u8],
     places: &[u16],
     count: usize,
-    kept: &mut [u8; 256],
+    kept: &mut [u8; bundle::DEFINITIONS],
     jagged: bool,
     at: usize,
     left: usize,
@@ -640,7 +669,7 @@ fn group_test(
     s: &[u8],
     places: &[u16],
     count: usize,
-    kept: &mut [u8; 256],
+    kept: &mut [u8; bundle::DEFINITIONS],
     jagged: bool,
     at: usize,
     depth: usize,
@@ -696,7 +725,7 @@ fn enum_test(
     s: &[u8],
     places: &[u16],
     count: usize,
-    kept: &mut [u8; 256],
+    kept: &mut [u8; bundle::DEFINITIONS],
     jagged: bool,
     at: usize,
     depth: usize,
@@ -724,7 +753,7 @@ fn array_test(
     s: &[u8],
     places: &[u16],
     count: usize,
-    kept: &mut [u8; 256],
+    kept: &mut [u8; bundle::DEFINITIONS],
     jagged: bool,
     at: usize,
     depth: usize,
@@ -752,7 +781,7 @@ fn members_test(
     s: &[u8],
     places: &[u16],
     count: usize,
-    kept: &mut [u8; 256],
+    kept: &mut [u8; bundle::DEFINITIONS],
     jagged: bool,
     at: usize,
     depth: usize,
@@ -786,7 +815,7 @@ pub fn type_size_depends_on_field_refs(
     s: &[u8],
     places: &[u16],
     count: usize,
-    kept: &mut [u8; 256],
+    kept: &mut [u8; bundle::DEFINITIONS],
     i: usize,
 ) -> bool
     requires { ⌜ Table (now s) count (now places) × (i < count) × Acyclic (now s) × Kept (now s) false (now kept) ⌝ }
@@ -800,7 +829,7 @@ pub fn definition_contains_jagged_array(
     s: &[u8],
     places: &[u16],
     count: usize,
-    kept: &mut [u8; 256],
+    kept: &mut [u8; bundle::DEFINITIONS],
     i: usize,
 ) -> bool
     requires { ⌜ Table (now s) count (now places) × (i < count) × Acyclic (now s) × Kept (now s) true (now kept) ⌝ }
@@ -814,7 +843,7 @@ pub fn type_size_depends_on_field_refs_recursive(
     s: &[u8],
     places: &[u16],
     count: usize,
-    kept: &mut [u8; 256],
+    kept: &mut [u8; bundle::DEFINITIONS],
     at: usize,
     depth: usize,
 ) -> bool
@@ -829,7 +858,7 @@ pub fn type_contains_jagged_array(
     s: &[u8],
     places: &[u16],
     count: usize,
-    kept: &mut [u8; 256],
+    kept: &mut [u8; bundle::DEFINITIONS],
     at: usize,
     depth: usize,
 ) -> bool

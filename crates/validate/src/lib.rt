@@ -144,7 +144,7 @@ fn check_reference(
     s: &[u8],
     places: &[u16],
     layout: Layout,
-    kept: &mut [u8; 256],
+    kept: &mut [u8; bundle::DEFINITIONS],
     name: u16,
     tag: bool,
     path: usize,
@@ -214,7 +214,7 @@ fn validate_references(
     s: &[u8],
     places: &[u16],
     layout: Layout,
-    kept: &mut [u8; 256],
+    kept: &mut [u8; bundle::DEFINITIONS],
     subject: Subject,
     tag: bool,
     at: usize,
@@ -284,7 +284,7 @@ fn validate_enum_tag_constraints(
     s: &[u8],
     places: &[u16],
     layout: Layout,
-    kept: &mut [u8; 256],
+    kept: &mut [u8; bundle::DEFINITIONS],
     subject: Subject,
     names: &[u16],
     table: &[u16],
@@ -305,7 +305,7 @@ fn validate_enum_tag_constraints(
     ensures { λ r. ⌜ Wrote (violationsOf (now (s .entry)) subject) (now (out .entry)) position (now (out .exit)) r × Kept (now (s .entry)) false (now (kept .exit)) ⌝ }
 {
     let start = subject.at + 12;
-    let step = bundle::expr_at(s, start, 23);
+    let step = bundle::expr_at(s, start, bundle::DEPTH_INSIDE);
     match step {
         Step::Next(end) => validate_references(
             s,
@@ -338,8 +338,8 @@ fn validate_array_size_constraints(
     s: &[u8],
     places: &[u16],
     layout: Layout,
-    kept: &mut [u8; 256],
-    nested: &mut [u8; 256],
+    kept: &mut [u8; bundle::DEFINITIONS],
+    nested: &mut [u8; bundle::DEFINITIONS],
     subject: Subject,
     jagged: u8,
     names: &[u16],
@@ -364,7 +364,7 @@ fn validate_array_size_constraints(
     let start = subject.at + 11;
     let i = subject.number;
     let name = subject.name;
-    let step = bundle::expr_at(s, start, 23);
+    let step = bundle::expr_at(s, start, bundle::DEPTH_INSIDE);
     match step {
         Step::Next(element) => {
             let check = checks::check_array_element_type_size(
@@ -411,7 +411,7 @@ fn validate_struct_field_constraints(
     s: &[u8],
     places: &[u16],
     layout: Layout,
-    kept: &mut [u8; 256],
+    kept: &mut [u8; bundle::DEFINITIONS],
     subject: Subject,
     count: usize,
     list: &mut [u16],
@@ -429,7 +429,7 @@ fn validate_struct_field_constraints(
     let mut left = count;
     let mut reached = position;
     while 0 < left {
-        let field = fields::field_at(s, next, 23, form);
+        let field = fields::field_at(s, next, bundle::DEPTH_INSIDE, form);
         let check = checks::check_field_layout_dependency(
             s,
             places,
@@ -455,8 +455,8 @@ fn validate_type(
     s: &[u8],
     places: &[u16],
     layout: Layout,
-    kept: &mut [u8; 256],
-    nested: &mut [u8; 256],
+    kept: &mut [u8; bundle::DEFINITIONS],
+    nested: &mut [u8; bundle::DEFINITIONS],
     i: usize,
     names: &[u16],
     table: &[u16],
@@ -483,7 +483,7 @@ fn validate_type(
         name: place.name,
         at: place.at,
     };
-    let shape = fields::shape_at(s, place.at, 24);
+    let shape = fields::shape_at(s, place.at, bundle::DEPTH_LIMIT);
     match shape {
         Shape::Struct(n) => validate_struct_field_constraints(
             s,
@@ -546,8 +546,8 @@ pub fn validate_layout_constraints(
     s: &[u8],
     places: &[u16],
     layout: Layout,
-    kept: &mut [u8; 256],
-    nested: &mut [u8; 256],
+    kept: &mut [u8; bundle::DEFINITIONS],
+    nested: &mut [u8; bundle::DEFINITIONS],
     names: &[u16],
     table: &[u16],
     ends: &[u16],

@@ -21,6 +21,10 @@ ghost use Rattle.writer.specs.declared.Shaped.the-variants.{Body};
 ghost use Rattle.writer.specs.Shapes.{partOf, noPart, shapedOf, isWidth, isCount, sound, shapeFields, sizeOf};
 ghost use Rattle.writer.specs.Places.{CallFrom};
 
+const DEFINITION_LIMIT: u64 = bundle::DEFINITION_LIMIT as u64;
+
+const EDGE_LIMIT: u64 = bundle::EDGE_LIMIT as u64;
+
 // A part of a record's body: its bytes, its largest value, and the refusal of a larger one. A part that is not there has no bytes.
 pub struct Part {
     pub width: u8,
@@ -154,8 +158,8 @@ fn record_shape(kind: u8) -> Shaped
     let none = no_part();
     match kind {
         0x60 => body(
-            number_part(2, 256, 5),
-            number_part(2, 1024, 5),
+            number_part(2, DEFINITION_LIMIT, 5),
+            number_part(2, EDGE_LIMIT, 5),
             name_part(),
             none,
         ),

@@ -1,5 +1,5 @@
 -- `bundle::walk_definition` and the functions for a type's parts meet their contracts: each way out is a law of `LeadLaws` or
--- `CircleLaws`. The measure is first the number of definitions not walked yet, then the depth. Assumes nothing.
+-- `CircleLaws`. The measure is first the number of definitions not walked yet, then the depth.
 use Prim.Native.Nat.{ℕ, _<_}
 use borrow.Author.Needs.{needs}
 use native.Mathlib.Omega.{arith}

@@ -1,4 +1,4 @@
--- `decimal::put_decimal` meets its contract, by recursion on the number. Assumes nothing.
+-- `decimal::put_decimal` meets its contract, by recursion on the number.
 use Prim.Native.Nat.{ℕ, _<_}
 use borrow.Author.Needs.{needs}
 use native.Mathlib.Omega.{arith}

@@ -1,4 +1,4 @@
--- `decimal::parse_name` meets its contract: the invariant is that of `Reading`. Assumes nothing.
+-- `decimal::parse_name` meets its contract: the invariant is that of `Reading`.
 use Rattle.decimal.proofs.parse_name.Statement.{statement}
 use Rattle.decimal.proofs.parse_name.Tie as tie
 use borrow.Author.Needs.{needs}

@@ -1,4 +1,3 @@
--- `decimal::put` meets its contract. Assumes nothing.
 use borrow.Author.Needs.{needs}
 use Rattle.decimal.proofs.put.Statement.{statement}
 use Rattle.decimal.proofs.put.Tie as tie

@@ -1,4 +1,3 @@
--- `decimal::put_line` meets its contract. Assumes nothing.
 use borrow.Author.Needs.{needs}
 use Rattle.decimal.proofs.put_line.Statement.{statement}
 use Rattle.decimal.proofs.put_line.Tie as tie

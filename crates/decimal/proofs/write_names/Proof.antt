@@ -1,4 +1,4 @@
--- `decimal::write_names` meets its contract: the invariant is that of `Writing`. Assumes nothing.
+-- `decimal::write_names` meets its contract: the invariant is that of `Writing`.
 use Rattle.decimal.proofs.write_names.Statement.{statement}
 use Rattle.decimal.proofs.write_names.Tie as tie
 use borrow.Author.Needs.{needs}

@@ -1,4 +1,3 @@
--- `layout::answer` meets its contract. Assumes nothing.
 use borrow.Author.Needs.{needs}
 use Rattle.layout.proofs.answer.Statement.{statement}
 use Rattle.layout.proofs.answer.Tie as tie

@@ -1,4 +1,3 @@
--- `layout::finish` meets its contract. Assumes nothing.
 use borrow.Author.Needs.{needs}
 use Rattle.layout.proofs.finish.Statement.{statement}
 use Rattle.layout.proofs.finish.Tie as tie

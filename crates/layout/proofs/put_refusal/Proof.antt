@@ -1,4 +1,3 @@
--- `layout::put_refusal` meets its contract. Assumes nothing.
 use borrow.Author.Needs.{needs}
 use Rattle.layout.proofs.put_refusal.Statement.{statement}
 use Rattle.layout.proofs.put_refusal.Tie as tie

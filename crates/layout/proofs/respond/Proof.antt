@@ -1,4 +1,3 @@
--- `layout::respond` meets its contract. Assumes nothing.
 use borrow.Author.Needs.{needs}
 use Rattle.layout.proofs.respond.Statement.{statement}
 use Rattle.layout.proofs.respond.Tie as tie

@@ -1,4 +1,3 @@
--- `layout::respond_chain` meets its contract. Assumes nothing.
 use borrow.Author.Needs.{needs}
 use Rattle.layout.proofs.respond_chain.Statement.{statement}
 use Rattle.layout.proofs.respond_chain.Tie as tie

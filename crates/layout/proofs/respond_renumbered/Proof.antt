@@ -1,4 +1,3 @@
--- `layout::respond_renumbered` meets its contract. Assumes nothing.
 use borrow.Author.Needs.{needs}
 use Rattle.layout.proofs.respond_renumbered.Statement.{statement}
 use Rattle.layout.proofs.respond_renumbered.Tie as tie

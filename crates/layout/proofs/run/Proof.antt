@@ -1,4 +1,4 @@
--- `layout::run` meets its contract: what it writes lies within its buffer. Assumes nothing.
+-- `layout::run` meets its contract: what it writes lies within its buffer.
 use borrow.Author.Needs.{needs}
 use Rattle.layout.proofs.run.Statement.{statement}
 use Rattle.layout.proofs.run.Tie as tie

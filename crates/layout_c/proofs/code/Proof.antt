@@ -1,4 +1,3 @@
--- `layout_c::code` meets its contract. Assumes nothing.
 use borrow.Author.Needs.{needs}
 use Rattle.layout_c.proofs.code.Statement.{statement}
 use Rattle.layout_c.proofs.code.Tie as tie

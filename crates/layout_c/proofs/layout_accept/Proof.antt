@@ -1,4 +1,3 @@
--- `layout_c::layout_accept` meets its contract. Assumes nothing.
 use borrow.Author.Needs.{needs}
 use Rattle.layout_c.proofs.layout_accept.Statement.{statement}
 use Rattle.layout_c.proofs.layout_accept.Tie as tie

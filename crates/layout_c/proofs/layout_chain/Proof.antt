@@ -1,4 +1,3 @@
--- `layout_c::layout_chain` meets its contract. Assumes nothing.
 use borrow.Author.Needs.{needs}
 use Rattle.layout_c.proofs.layout_chain.Statement.{statement}
 use Rattle.layout_c.proofs.layout_chain.Tie as tie

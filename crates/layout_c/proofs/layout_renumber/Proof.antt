@@ -1,4 +1,3 @@
--- `layout_c::layout_renumber` meets its contract. Assumes nothing.
 use borrow.Author.Needs.{needs}
 use Rattle.layout_c.proofs.layout_renumber.Statement.{statement}
 use Rattle.layout_c.proofs.layout_renumber.Tie as tie

@@ -1,4 +1,3 @@
--- `layout_c::layout_report` meets its contract. Assumes nothing.
 use borrow.Author.Needs.{needs}
 use Rattle.layout_c.proofs.layout_report.Statement.{statement}
 use Rattle.layout_c.proofs.layout_report.Tie as tie

@@ -1,4 +1,3 @@
--- `layout_c::length_out` meets its contract. Assumes nothing.
 use borrow.Author.Needs.{needs}
 use Rattle.layout_c.proofs.length_out.Statement.{statement}
 use Rattle.layout_c.proofs.length_out.Tie as tie

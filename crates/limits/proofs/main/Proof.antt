@@ -1,4 +1,4 @@
--- `limits::main` meets its contract: the buffer keeps its length, and each turn leaves one case less. Assumes nothing.
+-- `limits::main` meets its contract: the buffer keeps its length, and each turn leaves one case less.
 use Rattle.limits.proofs.main.Statement.{statement}
 use Rattle.limits.proofs.main.Tie as tie
 use borrow.Author.Needs.{needs}

@@ -1,4 +1,4 @@
--- `limits::run_first` meets its contract: the part that is lent is as long as it says. Assumes nothing.
+-- `limits::run_first` meets its contract: the part that is lent is as long as it says.
 use borrow.Author.Needs.{needs}
 use Rattle.limits.proofs.run_first.Statement.{statement}
 use Rattle.limits.proofs.run_first.Tie as tie

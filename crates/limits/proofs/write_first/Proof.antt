@@ -1,4 +1,4 @@
--- `limits::write_first` meets its contract: the part that is lent is as long as it says. Assumes nothing.
+-- `limits::write_first` meets its contract: the part that is lent is as long as it says.
 use borrow.Author.Needs.{needs}
 use Rattle.limits.proofs.write_first.Statement.{statement}
 use Rattle.limits.proofs.write_first.Tie as tie

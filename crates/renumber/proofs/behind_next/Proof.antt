@@ -1,4 +1,3 @@
--- `renumber::behind_next` meets its contract. Assumes nothing.
 use borrow.Author.Needs.{needs}
 use mathlib.Core.Path.{ap, _∙_}
 use Rattle.meaning.specs.Kinds.{formParts}

@@ -1,4 +1,3 @@
--- `renumber::name_due` meets its contract. Assumes nothing.
 use Rattle.renumber.proofs.PartLaws.{name-first, byte-first}
 use Rattle.renumber.proofs.name_due.Statement.{statement}
 use Rattle.renumber.proofs.name_due.Tie as tie

@@ -1,4 +1,4 @@
--- `renumber::parts_of` meets its contract, arm by arm. Assumes nothing.
+-- `renumber::parts_of` meets its contract, arm by arm.
 use borrow.Author.Needs.{needs}
 use mathlib.Core.Path.{sym, ap, _∙_}
 use Rattle.meaning.specs.Kinds.{formParts}

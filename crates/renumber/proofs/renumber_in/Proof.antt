@@ -1,4 +1,3 @@
--- `renumber::renumber_in` meets its contract. Assumes nothing.
 use borrow.Author.Needs.{needs}
 use native.Mathlib.Omega.{arith}
 use Rattle.names.proofs.Tables.{zero-table}

@@ -1,4 +1,4 @@
--- `renumber::scan` meets its contract: `Scan` holds after each item. Assumes nothing.
+-- `renumber::scan` meets its contract: `Scan` holds after each item.
 use Prim.Native.Nat.{_-_}
 use native.Mathlib.Omega.{arith}
 use borrow.Author.Needs.{needs}

@@ -1,4 +1,4 @@
--- `replay::main` meets its contract: the buffers keep their lengths, and each turn leaves one case less. Assumes nothing.
+-- `replay::main` meets its contract: the buffers keep their lengths, and each turn leaves one case less.
 use Rattle.replay.proofs.main.Statement.{statement}
 use Rattle.replay.proofs.main.Tie as tie
 use borrow.Author.Needs.{needs}

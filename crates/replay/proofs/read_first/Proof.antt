@@ -1,4 +1,4 @@
--- `replay::read_first` meets its contract: the part that is lent is as long as it says. Assumes nothing.
+-- `replay::read_first` meets its contract: the part that is lent is as long as it says.
 use borrow.Author.Needs.{needs}
 use Rattle.replay.proofs.read_first.Statement.{statement}
 use Rattle.replay.proofs.read_first.Tie as tie

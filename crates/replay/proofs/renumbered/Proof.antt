@@ -1,4 +1,4 @@
--- `replay::renumbered` meets its contract: the part that is lent is as long as it says. Assumes nothing.
+-- `replay::renumbered` meets its contract: the part that is lent is as long as it says.
 use borrow.Author.Needs.{needs}
 use Rattle.replay.proofs.renumbered.Statement.{statement}
 use Rattle.replay.proofs.renumbered.Tie as tie

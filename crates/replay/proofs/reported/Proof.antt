@@ -1,4 +1,4 @@
--- `replay::reported` meets its contract: the part that is lent is as long as it says. Assumes nothing.
+-- `replay::reported` meets its contract: the part that is lent is as long as it says.
 use borrow.Author.Needs.{needs}
 use Rattle.replay.proofs.reported.Statement.{statement}
 use Rattle.replay.proofs.reported.Tie as tie

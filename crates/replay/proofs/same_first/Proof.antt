@@ -1,4 +1,4 @@
--- `replay::same_first` meets its contract: the index stays within both. Assumes nothing.
+-- `replay::same_first` meets its contract: the index stays within both.
 use Rattle.replay.proofs.same_first.Statement.{statement}
 use Rattle.replay.proofs.same_first.Tie as tie
 use borrow.Author.Needs.{needs}

@@ -1,5 +1,5 @@
 -- `sizes::named_type_test`, `sizes::inline_type_test` and the functions for a type's parts meet their contracts: each way out is a
--- law of `TestLaws`. The measure is the falling pair of the definitions left and the depth left. Assumes nothing.
+-- law of `TestLaws`. The measure is the falling pair of the definitions left and the depth left.
 use Prim.Native.Nat.{ℕ, _<_}
 use borrow.Author.Needs.{needs}
 use native.Mathlib.Omega.{arith}

@@ -1,4 +1,4 @@
--- `sizes::all_of_size` meets its contract: the variants from here on pass as all of them do. Assumes nothing.
+-- `sizes::all_of_size` meets its contract: the variants from here on pass as all of them do.
 use Rattle.sizes.proofs.all_of_size.Statement.{statement}
 use Rattle.sizes.proofs.all_of_size.Tie as tie
 use borrow.Author.Needs.{needs}

@@ -1,4 +1,3 @@
--- `sizes::array_counts` meets its contract. Assumes nothing.
 use Rattle.sizes.proofs.array_counts.Statement.{statement}
 use Rattle.sizes.proofs.array_counts.Tie as tie
 use native.Mathlib.Omega.{arith}

@@ -1,4 +1,3 @@
--- `sizes::definition_contains_jagged_array` meets its contract. Assumes nothing.
 use Rattle.sizes.proofs.definition_contains_jagged_array.Statement.{statement}
 use Rattle.sizes.proofs.definition_contains_jagged_array.Tie as tie
 use mathlib.Core.Path.{_∙_}

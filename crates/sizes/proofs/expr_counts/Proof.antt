@@ -1,4 +1,3 @@
--- `sizes::expr_counts` meets its contract. Assumes nothing.
 use Rattle.sizes.proofs.expr_counts.Statement.{statement}
 use Rattle.sizes.proofs.expr_counts.Tie as tie
 use mathlib.Core.Bool.{not}

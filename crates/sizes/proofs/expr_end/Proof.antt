@@ -1,4 +1,4 @@
--- `sizes::expr_end` meets its contract: each form has its own length. Assumes nothing.
+-- `sizes::expr_end` meets its contract: each form has its own length.
 use borrow.Author.Needs.{needs}
 use Rattle.sizes.proofs.expr_end.Statement.{statement}
 use Rattle.sizes.proofs.expr_end.Tie as tie

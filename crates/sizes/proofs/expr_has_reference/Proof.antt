@@ -1,4 +1,3 @@
--- `sizes::expr_has_reference` meets its contract. Assumes nothing.
 use borrow.Author.Needs.{needs}
 use Rattle.sizes.proofs.expr_has_reference.Statement.{statement}
 use Rattle.sizes.proofs.expr_has_reference.Tie as tie

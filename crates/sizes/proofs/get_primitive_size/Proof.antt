@@ -1,4 +1,4 @@
--- `sizes::get_primitive_size` meets its contract: the kind is that of a primitive. Assumes nothing.
+-- `sizes::get_primitive_size` meets its contract: the kind is that of a primitive.
 use borrow.Author.Needs.{needs}
 use Rattle.sizes.proofs.get_primitive_size.Statement.{statement}
 use Rattle.sizes.proofs.get_primitive_size.Tie as tie

@@ -1,4 +1,4 @@
--- `sizes::has_reference` meets its contract: the references from here on, one by one, pass as all of them do. Assumes nothing.
+-- `sizes::has_reference` meets its contract: the references from here on, one by one, pass as all of them do.
 use Rattle.sizes.proofs.has_reference.Statement.{statement}
 use Rattle.sizes.proofs.has_reference.Tie as tie
 use borrow.Author.Needs.{needs}

@@ -1,4 +1,3 @@
--- `sizes::is_enum_with_constant_size_variants` meets its contract. Assumes nothing.
 use borrow.Author.Needs.{needs}
 use Rattle.sizes.proofs.is_enum_with_constant_size_variants.Statement.{statement}
 use Rattle.sizes.proofs.is_enum_with_constant_size_variants.Tie as tie

@@ -1,4 +1,3 @@
--- `sizes::names_in` meets its contract. Assumes nothing.
 use borrow.Author.Needs.{needs}
 use Rattle.sizes.proofs.names_in.Statement.{statement}
 use Rattle.sizes.proofs.names_in.Tie as tie

@@ -1,4 +1,4 @@
--- `sizes::next_reference` meets its contract: what is left from here hands out what the whole does. Assumes nothing.
+-- `sizes::next_reference` meets its contract: what is left from here hands out what the whole does.
 use Rattle.sizes.proofs.next_reference.Statement.{statement}
 use Rattle.sizes.proofs.next_reference.Tie as tie
 use borrow.Author.Needs.{needs}

@@ -1,4 +1,4 @@
--- `sizes::one_size` meets its contract: the size is that of the first variant. Assumes nothing.
+-- `sizes::one_size` meets its contract: the size is that of the first variant.
 use borrow.Author.Needs.{needs}
 use Rattle.sizes.proofs.one_size.Statement.{statement}
 use Rattle.sizes.proofs.one_size.Tie as tie

@@ -1,4 +1,4 @@
--- `sizes::parse_field_reference` meets its contract: one name is a field of the current name. Assumes nothing.
+-- `sizes::parse_field_reference` meets its contract: one name is a field of the current name.
 use borrow.Author.Needs.{needs}
 use Rattle.sizes.proofs.parse_field_reference.Statement.{statement}
 use Rattle.sizes.proofs.parse_field_reference.Tie as tie

@@ -1,4 +1,3 @@
--- `sizes::path_length` meets its contract. Assumes nothing.
 use borrow.Author.Needs.{needs}
 use Rattle.sizes.proofs.path_length.Statement.{statement}
 use Rattle.sizes.proofs.path_length.Tie as tie

@@ -1,4 +1,3 @@
--- `sizes::primitive_at` meets its contract. Assumes nothing.
 use borrow.Author.Needs.{needs}
 use Rattle.sizes.proofs.primitive_at.Statement.{statement}
 use Rattle.sizes.proofs.primitive_at.Tie as tie

@@ -1,4 +1,4 @@
--- `sizes::record_end` meets its contract: each form has its own length. Assumes nothing.
+-- `sizes::record_end` meets its contract: each form has its own length.
 use borrow.Author.Needs.{needs}
 use Rattle.sizes.proofs.record_end.Statement.{statement}
 use Rattle.sizes.proofs.record_end.Tie as tie

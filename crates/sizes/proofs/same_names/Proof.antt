@@ -1,4 +1,4 @@
--- `sizes::same_names` meets its contract: the names from here on compare as all of them do. Assumes nothing.
+-- `sizes::same_names` meets its contract: the names from here on compare as all of them do.
 use Rattle.sizes.proofs.same_names.Statement.{statement}
 use Rattle.sizes.proofs.same_names.Tie as tie
 use borrow.Author.Needs.{needs}

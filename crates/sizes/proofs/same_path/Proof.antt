@@ -1,4 +1,4 @@
--- `sizes::same_path` meets its contract: as many names, and the same ones. Assumes nothing.
+-- `sizes::same_path` meets its contract: as many names, and the same ones.
 use Rattle.sizes.proofs.same_path.Statement.{statement}
 use Rattle.sizes.proofs.same_path.Tie as tie
 use native.Mathlib.Omega.{arith}

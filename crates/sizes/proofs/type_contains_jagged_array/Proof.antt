@@ -1,4 +1,3 @@
--- `sizes::type_contains_jagged_array` meets its contract. Assumes nothing.
 use borrow.Author.Needs.{needs}
 use Rattle.sizes.proofs.type_contains_jagged_array.Statement.{statement}
 use Rattle.sizes.proofs.type_contains_jagged_array.Tie as tie

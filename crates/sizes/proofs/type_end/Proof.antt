@@ -1,4 +1,4 @@
--- `sizes::type_end` meets its contract: each form has its own length. Assumes nothing.
+-- `sizes::type_end` meets its contract: each form has its own length.
 use borrow.Author.Needs.{needs}
 use Rattle.sizes.proofs.type_end.Statement.{statement}
 use Rattle.sizes.proofs.type_end.Tie as tie

@@ -1,4 +1,3 @@
--- `sizes::type_needs_field_ref_for_layout` meets its contract. Assumes nothing.
 use borrow.Author.Needs.{needs}
 use Rattle.sizes.proofs.type_needs_field_ref_for_layout.Statement.{statement}
 use Rattle.sizes.proofs.type_needs_field_ref_for_layout.Tie as tie

@@ -1,4 +1,3 @@
--- `sizes::type_size_depends_on_field_refs` meets its contract. Assumes nothing.
 use Rattle.sizes.proofs.type_size_depends_on_field_refs.Statement.{statement}
 use Rattle.sizes.proofs.type_size_depends_on_field_refs.Tie as tie
 use mathlib.Core.Path.{_∙_}

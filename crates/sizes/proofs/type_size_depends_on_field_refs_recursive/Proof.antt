@@ -1,4 +1,3 @@
--- `sizes::type_size_depends_on_field_refs_recursive` meets its contract. Assumes nothing.
 use borrow.Author.Needs.{needs}
 use Rattle.sizes.proofs.type_size_depends_on_field_refs_recursive.Statement.{statement}
 use Rattle.sizes.proofs.type_size_depends_on_field_refs_recursive.Tie as tie

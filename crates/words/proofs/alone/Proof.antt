@@ -1,4 +1,3 @@
--- `words::alone` meets its contract. Assumes nothing.
 use borrow.Author.Needs.{needs}
 use Rattle.words.proofs.alone.Statement.{statement}
 use Rattle.words.proofs.alone.Tie as tie

@@ -1,4 +1,3 @@
--- `words::between` meets its contract. Assumes nothing.
 use borrow.Author.Needs.{needs}
 use Rattle.words.proofs.between.Statement.{statement}
 use Rattle.words.proofs.between.Tie as tie

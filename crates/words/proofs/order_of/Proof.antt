@@ -1,4 +1,3 @@
--- `words::order_of` meets its contract. Assumes nothing.
 use borrow.Author.Needs.{needs}
 use Rattle.words.proofs.order_of.Statement.{statement}
 use Rattle.words.proofs.order_of.Tie as tie

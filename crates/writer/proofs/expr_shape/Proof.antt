@@ -1,4 +1,3 @@
--- `writer::expr_shape` meets its contract. Assumes nothing.
 use borrow.Author.Needs.{needs}
 use Rattle.writer.proofs.expr_shape.Statement.{statement}
 use Rattle.writer.proofs.expr_shape.Tie as tie

@@ -1,4 +1,3 @@
--- `writer::head_shape` meets its contract. Assumes nothing.
 use borrow.Author.Needs.{needs}
 use Rattle.writer.proofs.head_shape.Statement.{statement}
 use Rattle.writer.proofs.head_shape.Tie as tie

@@ -1,4 +1,3 @@
--- `writer::path_shape` meets its contract. Assumes nothing.
 use borrow.Author.Needs.{needs}
 use Rattle.writer.proofs.path_shape.Statement.{statement}
 use Rattle.writer.proofs.path_shape.Tie as tie

@@ -1,4 +1,4 @@
--- `writer::put_number` meets its contract: the invariant is that of `Numbers`. Assumes nothing.
+-- `writer::put_number` meets its contract: the invariant is that of `Numbers`.
 use Rattle.writer.proofs.put_number.Statement.{statement}
 use Rattle.writer.proofs.put_number.Tie as tie
 use borrow.Author.Needs.{needs}

@@ -1,4 +1,3 @@
--- `writer::put_record` meets its contract. Assumes nothing.
 use borrow.Author.Needs.{needs}
 use Rattle.writer.proofs.put_record.Statement.{statement}
 use Rattle.writer.proofs.put_record.Tie as tie

@@ -1,4 +1,3 @@
--- `writer::record_shape` meets its contract. Assumes nothing.
 use borrow.Author.Needs.{needs}
 use Rattle.writer.proofs.record_shape.Statement.{statement}
 use Rattle.writer.proofs.record_shape.Tie as tie

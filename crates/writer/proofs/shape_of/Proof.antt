@@ -1,4 +1,3 @@
--- `writer::shape_of` meets its contract. Assumes nothing.
 use borrow.Author.Needs.{needs}
 use Rattle.writer.proofs.shape_of.Statement.{statement}
 use Rattle.writer.proofs.shape_of.Tie as tie

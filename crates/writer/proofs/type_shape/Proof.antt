@@ -1,4 +1,3 @@
--- `writer::type_shape` meets its contract. Assumes nothing.
 use borrow.Author.Needs.{needs}
 use Rattle.writer.proofs.type_shape.Statement.{statement}
 use Rattle.writer.proofs.type_shape.Tie as tie

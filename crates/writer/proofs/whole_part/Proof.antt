@@ -1,4 +1,3 @@
--- `writer::whole_part` meets its contract. Assumes nothing.
 use borrow.Author.Needs.{needs}
 use Rattle.writer.proofs.whole_part.Statement.{statement}
 use Rattle.writer.proofs.whole_part.Tie as tie

@@ -1,4 +1,3 @@
--- `writer::write_record` meets its contract. Assumes nothing.
 use borrow.Author.Needs.{needs}
 use Rattle.writer.proofs.write_record.Statement.{statement}
 use Rattle.writer.proofs.write_record.Tie as tie

@@ -1,4 +1,3 @@
--- `writer::write_shape` meets its contract. Assumes nothing.
 use borrow.Author.Needs.{needs}
 use Rattle.writer.proofs.write_shape.Statement.{statement}
 use Rattle.writer.proofs.write_shape.Tie as tie
