@@ -32,7 +32,7 @@ fn length_out(answer: Answer, written: usize) -> usize
 pub extern "C" fn layout_accept(bundle: &[u8]) -> u8
     ensures { λ r. ⌜ r ≡ codeOf (answerOf (acceptance (now (bundle .entry))) 0) ⌝ }
 {
-    code(bundle::accept(bundle))
+    code(acceptance::accept(bundle))
 }
 
 // The report, into the first places of `out`.
@@ -66,7 +66,7 @@ pub extern "C" fn layout_chain(
 ) -> u8
     ensures { λ r. ⌜ CallInC (chaining from to (now (bundle .entry))) (now (list .entry)) (now (list .exit)) (now (written .entry)) (now (written .exit)) r ⌝ }
 {
-    let answer = chain::find_layout_dependency_chain(bundle, from, to, list);
+    let answer = search::find_layout_dependency_chain(bundle, from, to, list);
     *written = length_out(answer, *written);
     code(answer)
 }

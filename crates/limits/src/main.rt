@@ -34,7 +34,7 @@ fn write_first(space: &[u8], n: usize) {
 // Runs the bundle in the first n bytes.
 fn run_first(space: &[u8], n: usize) {
     if n <= space.len() {
-        print(bundle::accept(&space[..n]));
+        print(acceptance::accept(&space[..n]));
     }
 }
 

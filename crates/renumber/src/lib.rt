@@ -113,7 +113,7 @@ fn renumber_in(bundle: &[u8], places: &mut [u16], out: &mut [u8]) -> Answer
     requires { ⌜ 256 < length (now places) ⌝ }
     ensures { λ r. ⌜ Call (renumbering (now (bundle .entry))) (now (out .entry)) (now (out .exit)) (answerMeant r) ⌝ }
 {
-    let opening = bundle::open(bundle, places);
+    let opening = acceptance::open(bundle, places);
     match opening {
         Opening::Opened(_) => {
             if out.len() < bundle.len() {

@@ -1,29 +1,25 @@
 // The validators: they go through references, fields and definitions, and write a record for each violation.
 use bundle::Layout;
-use bundle::Step;
 use checks::Check;
 use checks::Reference;
-use fields::Shape;
 use violation::Path;
 use violation::Record;
 ghost use mathlib.Core.Path.{_≡_};
-ghost use mathlib.Core.Bool.{true, false};
+ghost use mathlib.Core.Bool.{false};
 ghost use mathlib.Core.List.{[]};
-ghost use Prim.Native.Nat.{ℕ, _+_, _*_, _≤_, _<_};
+ghost use Prim.Native.Nat.{ℕ, _≤_, _<_};
 ghost use lib.ListN.{length, getD};
 ghost use Rattle.meaning.specs.Limits.{definitionLimit};
 ghost use Rattle.meaning.specs.Lists.{filterMap, push};
-ghost use Rattle.meaning.specs.Violations.{violations};
 ghost use Rattle.bundle.specs.Definitions.{bundleOf};
 ghost use Rattle.bundle.specs.Opened.{LayoutOf};
 ghost use Rattle.chain.specs.Index.{Workspace};
 ghost use Rattle.sizes.specs.Paths.{Fit};
 ghost use Rattle.sizes.specs.Scan.{pathAt, pathsFrom, referencesFrom, Fits};
 ghost use Rattle.sizes.specs.Tests.{Acyclic, Kept};
-ghost use Rattle.fields.specs.Shapes.{StructAt, EnumAt, ArrayAt};
 ghost use Rattle.violation.specs.Records.{padded};
 ghost use Rattle.checks.specs.Checks.{violationOf, Fitting, Checked, EdgesPrepared, Searched};
-ghost use Rattle.validate.specs.Validating.{Recorded, Wrote, Room, recordWith, pathOfTwo, checkReference, violationsOf, violationsAt};
+ghost use Rattle.validate.specs.Validating.{Recorded, Wrote, Room, recordWith, pathOfTwo, checkReference};
 
 // How far a report is written: the place behind it, and the count of its violations.
 pub struct Position {
@@ -115,7 +111,7 @@ fn record_of(s: &[u8], check: Check) -> Record
 
 // Writes the record of what a check of definition `i` found, with the chain that stands in the list. The loops below call it only
 // where there is one: a position that is handed over and back costs more than most checks.
-fn put_check(
+pub fn put_check(
     s: &[u8],
     out: &mut [u8],
     position: Position,
@@ -167,7 +163,7 @@ fn check_reference(
     ensures { λ r. ⌜ Checked (now (s .entry)) name (now (list .exit)) r (λ i. checkReference tag (bundleOf (now (s .entry))) i name (pathAt (now (s .entry)) path)) × Kept (now (s .entry)) false (now (kept .exit)) × Searched (now (s .entry)) layout (now (names .entry)) (now (queue .exit)) (now (marks .exit)) (now (spent .exit)) (now (list .exit)) (now (held .exit)) name ⌝ }
 {
     if tag {
-        return checks::check_enum_tag_layout_cycle(
+        return cycles::check_enum_tag_layout_cycle(
             s,
             places,
             layout,
@@ -188,7 +184,7 @@ fn check_reference(
             list,
         );
     }
-    checks::check_array_size_layout_cycle(
+    cycles::check_array_size_layout_cycle(
         s,
         layout,
         name,
@@ -210,7 +206,7 @@ fn check_reference(
 
 // Checks each reference from `at` to `end`, and writes what is found. All searches here are to one name, so that each may use what the
 // ones before it have left.
-fn validate_references(
+pub fn validate_references(
     s: &[u8],
     places: &[u16],
     layout: Layout,
@@ -275,323 +271,6 @@ fn validate_references(
             _ => reached = put_check(s, out, reached, i, name, check, list),
         }
         next = after;
-    }
-    reached
-}
-
-// Writes the violations of an enum: for each reference of its tag.
-fn validate_enum_tag_constraints(
-    s: &[u8],
-    places: &[u16],
-    layout: Layout,
-    kept: &mut [u8; bundle::DEFINITIONS],
-    subject: Subject,
-    names: &[u16],
-    table: &[u16],
-    ends: &[u16],
-    first: &[u16],
-    links: &[u16],
-    m: usize,
-    queue: &mut [u16],
-    parents: &mut [u16],
-    marks: &mut [u16],
-    list: &mut [u16],
-    out: &mut [u8],
-    position: Position,
-) -> Position
-    requires { ⌜ EdgesPrepared (now s) layout (now names) (now table) (now ends) (now first) (now links) m × Workspace (layout .edges) (now queue) (now parents) ⌝ }
-    requires { ⌜ LayoutOf (now s) layout (now places) × Acyclic (now s) × Kept (now s) false (now kept) × (subject .number < definitionLimit) ⌝ }
-    requires { ⌜ (1025 ≤ length (now list)) × EnumAt 24 (now s) (subject .at) × Room position (violationsOf (now s) subject) ⌝ }
-    ensures { λ r. ⌜ Wrote (violationsOf (now (s .entry)) subject) (now (out .entry)) position (now (out .exit)) r × Kept (now (s .entry)) false (now (kept .exit)) ⌝ }
-{
-    let start = subject.at + 12;
-    let step = bundle::expr_at(s, start, bundle::DEPTH_INSIDE);
-    match step {
-        Step::Next(end) => validate_references(
-            s,
-            places,
-            layout,
-            kept,
-            subject,
-            true,
-            start,
-            end,
-            names,
-            table,
-            ends,
-            first,
-            links,
-            m,
-            queue,
-            parents,
-            marks,
-            list,
-            out,
-            position,
-        ),
-        Step::Refused(_) => position,
-    }
-}
-
-// Writes the violations of an array: for its element, then for each reference of its size.
-fn validate_array_size_constraints(
-    s: &[u8],
-    places: &[u16],
-    layout: Layout,
-    kept: &mut [u8; bundle::DEFINITIONS],
-    nested: &mut [u8; bundle::DEFINITIONS],
-    subject: Subject,
-    jagged: u8,
-    names: &[u16],
-    table: &[u16],
-    ends: &[u16],
-    first: &[u16],
-    links: &[u16],
-    m: usize,
-    queue: &mut [u16],
-    parents: &mut [u16],
-    marks: &mut [u16],
-    list: &mut [u16],
-    out: &mut [u8],
-    position: Position,
-) -> Position
-    requires { ⌜ EdgesPrepared (now s) layout (now names) (now table) (now ends) (now first) (now links) m × Workspace (layout .edges) (now queue) (now parents) ⌝ }
-    requires { ⌜ LayoutOf (now s) layout (now places) × (subject .number < definitionLimit) ⌝ }
-    requires { ⌜ (1025 ≤ length (now list)) × ArrayAt 24 (now s) (subject .at) jagged × Room position (violationsOf (now s) subject) ⌝ }
-    requires { ⌜ Acyclic (now s) × Kept (now s) false (now kept) × Kept (now s) true (now nested) ⌝ }
-    ensures { λ r. ⌜ Wrote (violationsOf (now (s .entry)) subject) (now (out .entry)) position (now (out .exit)) r × Kept (now (s .entry)) false (now (kept .exit)) × Kept (now (s .entry)) true (now (nested .exit)) ⌝ }
-{
-    let start = subject.at + 11;
-    let i = subject.number;
-    let name = subject.name;
-    let step = bundle::expr_at(s, start, bundle::DEPTH_INSIDE);
-    match step {
-        Step::Next(element) => {
-            let check = checks::check_array_element_type_size(
-                s,
-                places,
-                layout.definitions,
-                kept,
-                nested,
-                name,
-                jagged,
-                element,
-                list,
-            );
-            let next = put_check(s, out, position, i, name, check, list);
-            validate_references(
-                s,
-                places,
-                layout,
-                kept,
-                subject,
-                false,
-                start,
-                element,
-                names,
-                table,
-                ends,
-                first,
-                links,
-                m,
-                queue,
-                parents,
-                marks,
-                list,
-                out,
-                next,
-            )
-        }
-        Step::Refused(_) => position,
-    }
-}
-
-// Writes the violations of a struct: at most one for each of its `count` fields.
-fn validate_struct_field_constraints(
-    s: &[u8],
-    places: &[u16],
-    layout: Layout,
-    kept: &mut [u8; bundle::DEFINITIONS],
-    subject: Subject,
-    count: usize,
-    list: &mut [u16],
-    out: &mut [u8],
-    position: Position,
-) -> Position
-    requires { ⌜ LayoutOf (now s) layout (now places) × Acyclic (now s) × Kept (now s) false (now kept) × (subject .number < definitionLimit) ⌝ }
-    requires { ⌜ (1025 ≤ length (now list)) × StructAt 24 (now s) (subject .at) count × Room position (violationsOf (now s) subject) ⌝ }
-    ensures { λ r. ⌜ Wrote (violationsOf (now (s .entry)) subject) (now (out .entry)) position (now (out .exit)) r × Kept (now (s .entry)) false (now (kept .exit)) ⌝ }
-{
-    let i = subject.number;
-    let name = subject.name;
-    let form = bundle::form_of(0x50);
-    let mut next = subject.at + 12;
-    let mut left = count;
-    let mut reached = position;
-    while 0 < left {
-        let field = fields::field_at(s, next, bundle::DEPTH_INSIDE, form);
-        let check = checks::check_field_layout_dependency(
-            s,
-            places,
-            layout,
-            kept,
-            name,
-            count - left,
-            field,
-            list,
-        );
-        match check {
-            Check::Fine => {}
-            _ => reached = put_check(s, out, reached, i, name, check, list),
-        }
-        next = field.next;
-        left -= 1;
-    }
-    reached
-}
-
-// Writes the violations of definition `i`: an enum, array or struct goes to its validator, other kinds to none.
-fn validate_type(
-    s: &[u8],
-    places: &[u16],
-    layout: Layout,
-    kept: &mut [u8; bundle::DEFINITIONS],
-    nested: &mut [u8; bundle::DEFINITIONS],
-    i: usize,
-    names: &[u16],
-    table: &[u16],
-    ends: &[u16],
-    first: &[u16],
-    links: &[u16],
-    m: usize,
-    queue: &mut [u16],
-    parents: &mut [u16],
-    marks: &mut [u16],
-    list: &mut [u16],
-    out: &mut [u8],
-    position: Position,
-) -> Position
-    requires { ⌜ EdgesPrepared (now s) layout (now names) (now table) (now ends) (now first) (now links) m × Workspace (layout .edges) (now queue) (now parents) ⌝ }
-    requires { ⌜ LayoutOf (now s) layout (now places) × (i < layout .definitions) ⌝ }
-    requires { ⌜ (1025 ≤ length (now list)) × Room position (violationsAt (now s) (now places) i) ⌝ }
-    requires { ⌜ Acyclic (now s) × Kept (now s) false (now kept) × Kept (now s) true (now nested) ⌝ }
-    ensures { λ r. ⌜ Wrote (violationsAt (now (s .entry)) (now (places .entry)) i) (now (out .entry)) position (now (out .exit)) r × Kept (now (s .entry)) false (now (kept .exit)) × Kept (now (s .entry)) true (now (nested .exit)) ⌝ }
-{
-    let place = fields::place_of(s, places, layout.definitions, i);
-    let subject = Subject {
-        number: i,
-        name: place.name,
-        at: place.at,
-    };
-    let shape = fields::shape_at(s, place.at, bundle::DEPTH_LIMIT);
-    match shape {
-        Shape::Struct(n) => validate_struct_field_constraints(
-            s,
-            places,
-            layout,
-            kept,
-            subject,
-            n,
-            list,
-            out,
-            position,
-        ),
-        Shape::Enum => validate_enum_tag_constraints(
-            s,
-            places,
-            layout,
-            kept,
-            subject,
-            names,
-            table,
-            ends,
-            first,
-            links,
-            m,
-            queue,
-            parents,
-            marks,
-            list,
-            out,
-            position,
-        ),
-        Shape::Array(jagged) => validate_array_size_constraints(
-            s,
-            places,
-            layout,
-            kept,
-            nested,
-            subject,
-            jagged,
-            names,
-            table,
-            ends,
-            first,
-            links,
-            m,
-            queue,
-            parents,
-            marks,
-            list,
-            out,
-            position,
-        ),
-        Shape::TypeRef(_) => position,
-        Shape::Plain => position,
-    }
-}
-
-// Writes the violations of all definitions, in order.
-pub fn validate_layout_constraints(
-    s: &[u8],
-    places: &[u16],
-    layout: Layout,
-    kept: &mut [u8; bundle::DEFINITIONS],
-    nested: &mut [u8; bundle::DEFINITIONS],
-    names: &[u16],
-    table: &[u16],
-    ends: &[u16],
-    first: &[u16],
-    links: &[u16],
-    m: usize,
-    queue: &mut [u16],
-    parents: &mut [u16],
-    marks: &mut [u16],
-    list: &mut [u16],
-    out: &mut [u8],
-    position: Position,
-) -> Position
-    requires { ⌜ EdgesPrepared (now s) layout (now names) (now table) (now ends) (now first) (now links) m × Workspace (layout .edges) (now queue) (now parents) ⌝ }
-    requires { ⌜ LayoutOf (now s) layout (now places) ⌝ }
-    requires { ⌜ (1025 ≤ length (now list)) × Room position (violations (bundleOf (now s))) ⌝ }
-    requires { ⌜ Acyclic (now s) × Kept (now s) false (now kept) × Kept (now s) true (now nested) ⌝ }
-    ensures { λ r. ⌜ Wrote (violations (bundleOf (now (s .entry)))) (now (out .entry)) position (now (out .exit)) r × Kept (now (s .entry)) false (now (kept .exit)) × Kept (now (s .entry)) true (now (nested .exit)) ⌝ }
-{
-    let count = layout.definitions;
-    let mut i = 0;
-    let mut reached = position;
-    while i < count {
-        reached = validate_type(
-            s,
-            places,
-            layout,
-            kept,
-            nested,
-            i,
-            names,
-            table,
-            ends,
-            first,
-            links,
-            m,
-            queue,
-            parents,
-            marks,
-            list,
-            out,
-            reached,
-        );
-        i += 1;
     }
     reached
 }

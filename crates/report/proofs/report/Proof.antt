@@ -8,7 +8,7 @@ use lib.ListN.{length-replicate}
 use Rattle.meaning.specs.Due.{reporting}
 use Rattle.bundle.proofs.AnswerLaws.{opened-layout, opened-refused}
 use Rattle.chain.proofs.Called.{turned-down}
-use Rattle.report.proofs.Reporting.{called}
+use Rattle.draft.proofs.Reporting.{called}
 
 report-long-requires : tie.Need-report-long-requires
 report-long-requires c κs = search needs

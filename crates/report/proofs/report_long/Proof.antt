@@ -8,7 +8,7 @@ use lib.ListN.{length-replicate}
 use Rattle.meaning.specs.Due.{reporting}
 use Rattle.bundle.proofs.AnswerLaws.{opened-layout, opened-refused}
 use Rattle.chain.proofs.Called.{turned-down}
-use Rattle.report.proofs.Reporting.{called}
+use Rattle.draft.proofs.Reporting.{called}
 
 slice-aggregate-open : tie.Need-slice-aggregate-open
 slice-aggregate-open c = search needs

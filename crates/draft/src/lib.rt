@@ -1,0 +1,162 @@
+// The report of a bundle: its violations as bytes, or the number for which it is refused.
+use bundle::Answer;
+use bundle::Layout;
+use validate::Position;
+ghost use mathlib.Core.Path.{_≡_};
+ghost use mathlib.Core.Bool.{true, false};
+ghost use Prim.Native.Nat.{_-_, _≤_};
+ghost use lib.ListN.{length, take, drop};
+ghost use Rattle.meaning.specs.Calls.{Call, result};
+ghost use Rattle.meaning.specs.Circle.{circles};
+ghost use Rattle.meaning.specs.Report.{report};
+ghost use Rattle.meaning.specs.Violations.{violations};
+ghost use Rattle.bundle.specs.Definitions.{bundleOf};
+ghost use Rattle.bundle.specs.Opened.{LayoutOf, answerMeant};
+ghost use Rattle.sizes.specs.Tests.{Acyclic, Kept};
+ghost use Rattle.chain.specs.Index.{Room, Workspace};
+ghost use Rattle.checks.specs.Checks.{EdgesPrepared};
+ghost use Rattle.violation.specs.Records.{Puts};
+
+// The bytes of a draft.
+const DRAFT: usize = 1024;
+
+// Copies the places from 3 to `end` of a draft.
+fn copy_records(draft: &[u8], end: usize, out: &mut [u8])
+    requires { ⌜ (3 ≤ end) × (end ≤ length (now draft)) × (end ≤ 1024) ⌝ }
+    ensures { λ _. ⌜ Puts (take (end - 3) (drop 3 (now (draft .entry)))) (now (out .entry)) 3 (now (out .exit)) end ⌝ }
+{
+    let mut at = 3;
+    while at < end {
+        at = violation::put_byte(out, at, draft[at]);
+    }
+}
+
+// Writes the report, if there is room for all of it. A first run writes into a buffer of its own and counts, so that a refusal leaves
+// the places as they are. A report that fits there is copied; a longer one is written by a second run.
+fn write_report(
+    s: &[u8],
+    places: &[u16],
+    layout: Layout,
+    kept: &mut [u8; bundle::DEFINITIONS],
+    nested: &mut [u8; bundle::DEFINITIONS],
+    names: &[u16],
+    table: &[u16],
+    ends: &[u16],
+    first: &[u16],
+    links: &[u16],
+    m: usize,
+    queue: &mut [u16],
+    parents: &mut [u16],
+    marks: &mut [u16],
+    list: &mut [u16],
+    out: &mut [u8],
+) -> Answer
+    requires { ⌜ EdgesPrepared (now s) layout (now names) (now table) (now ends) (now first) (now links) m × Workspace (layout .edges) (now queue) (now parents) ⌝ }
+    requires { ⌜ LayoutOf (now s) layout (now places) ⌝ }
+    requires { ⌜ (1025 ≤ length (now list)) × (length (violations (bundleOf (now s))) ≤ 65535) ⌝ }
+    requires { ⌜ Acyclic (now s) × Kept (now s) false (now kept) × Kept (now s) true (now nested) ⌝ }
+    ensures { λ r. ⌜ Call (result (report (bundleOf (now (s .entry))))) (now (out .entry)) (now (out .exit)) (answerMeant r) ⌝ }
+{
+    let start = Position { at: 3, count: 0 };
+    let mut draft = [0u8; DRAFT];
+    let counted = validators::validate_layout_constraints(
+        s,
+        places,
+        layout,
+        kept,
+        nested,
+        names,
+        table,
+        ends,
+        first,
+        links,
+        m,
+        queue,
+        parents,
+        marks,
+        list,
+        &mut draft,
+        start,
+    );
+    if out.len() < counted.at {
+        return Answer::Refused(9);
+    }
+    let second = violation::put_byte(out, 0, 0x70);
+    violation::put_two(out, second, counted.count as u16);
+    if counted.at <= DRAFT {
+        copy_records(&draft, counted.at, out);
+        return Answer::Accepted(counted.at);
+    }
+    let written = validators::validate_layout_constraints(
+        s,
+        places,
+        layout,
+        kept,
+        nested,
+        names,
+        table,
+        ends,
+        first,
+        links,
+        m,
+        queue,
+        parents,
+        marks,
+        list,
+        out,
+        start,
+    );
+    Answer::Accepted(written.at)
+}
+
+// The report of an opened bundle, with lists that have room for its edges. What they hold before is free.
+pub fn report_with(
+    s: &[u8],
+    places: &[u16],
+    layout: Layout,
+    names: &mut [u16],
+    table: &mut [u16],
+    ends: &mut [u16],
+    first: &mut [u16],
+    links: &mut [u16],
+    queue: &mut [u16],
+    parents: &mut [u16],
+    marks: &mut [u16],
+    out: &mut [u8],
+) -> Answer
+    requires { ⌜ Room (layout .edges) (now names) (now ends) (now first) (now links) × Workspace (layout .edges) (now queue) (now parents) ⌝ }
+    requires { ⌜ LayoutOf (now s) layout (now places) × (circles (bundleOf (now s)) ≡ false) ⌝ }
+    ensures { λ r. ⌜ Call (result (report (bundleOf (now (s .entry))))) (now (out .entry)) (now (out .exit)) (answerMeant r) ⌝ }
+{
+    let mut kept = [0u8; bundle::DEFINITIONS];
+    let mut nested = [0u8; bundle::DEFINITIONS];
+    let mut list = [0u16; bundle::CHAIN_LIMIT];
+    let m = chain::prepare(
+        s,
+        layout.edges_at,
+        layout.edges,
+        names,
+        table,
+        ends,
+        first,
+        links,
+    );
+    write_report(
+        s,
+        places,
+        layout,
+        &mut kept,
+        &mut nested,
+        names,
+        table,
+        ends,
+        first,
+        links,
+        m,
+        queue,
+        parents,
+        marks,
+        &mut list,
+        out,
+    )
+}
