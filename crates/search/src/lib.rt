@@ -16,6 +16,15 @@ ghost use Rattle.chain.specs.Members.{Members};
 ghost use Rattle.chain.specs.Index.{Room, Prepared, Workspace, entryName};
 ghost use Rattle.chain.specs.Queue.{Rising, chainTo, namesOf, Spent};
 
+// Few edges: lists for so many of them, and a table for the names below `FEW_NAMES`.
+pub const FEW_EDGES: usize = 64;
+
+pub const FEW_ENDS: usize = 2 * FEW_EDGES;
+
+pub const FEW_CHAIN: usize = FEW_EDGES + 1;
+
+pub const FEW_NAMES: usize = 256;
+
 // How many names the chain of entry `entry` has.
 fn chain_len(parents: &[u16], entry: usize) -> usize
     requires { ⌜ (entry < length (now parents)) × Rising (now parents) (entry + 1) ⌝ }
@@ -190,14 +199,14 @@ fn find_few(bytes: &[u8], at: usize, count: usize, from: u16, to: u16, list: &mu
     requires { ⌜ HasEdges (now bytes) at count × (count ≤ 64) ⌝ }
     ensures { λ r. ⌜ Answers (chainOf (graphAt (now (bytes .entry)) at count) from to) (now (list .entry)) (now (list .exit)) r ⌝ }
 {
-    let mut names = [0u16; chain::FEW_ENDS];
-    let mut table = [0u16; chain::FEW_NAMES];
-    let mut ends = [0u16; chain::FEW_ENDS];
-    let mut first = [0u16; chain::FEW_ENDS];
-    let mut next = [0u16; chain::FEW_EDGES];
-    let mut queue = [0u16; chain::FEW_CHAIN];
-    let mut parents = [0u16; chain::FEW_CHAIN];
-    let mut places = [0u16; chain::FEW_ENDS];
+    let mut names = [0u16; FEW_ENDS];
+    let mut table = [0u16; FEW_NAMES];
+    let mut ends = [0u16; FEW_ENDS];
+    let mut first = [0u16; FEW_ENDS];
+    let mut next = [0u16; FEW_EDGES];
+    let mut queue = [0u16; FEW_CHAIN];
+    let mut parents = [0u16; FEW_CHAIN];
+    let mut places = [0u16; FEW_ENDS];
     find_with(
         bytes,
         at,
@@ -295,7 +304,7 @@ pub fn find_layout_dependency_chain(
     let opening = acceptance::open(bytes, &mut places);
     match opening {
         bundle::Opening::Opened(layout) => {
-            if chain::FEW_EDGES < layout.edges {
+            if FEW_EDGES < layout.edges {
                 return chain_long(bytes, from, to, list);
             }
             let found = find_few(bytes, layout.edges_at, layout.edges, from, to, list);
