@@ -1,5 +1,6 @@
 #!/bin/sh
-# Assembles and explains each sample and compares with what is stored beside it.
+# Assembles and explains each sample and compares with what is stored beside it,
+# and each set of docs/PASS.md and compares with what its first line says.
 # Usage: samples/check.sh [LIBRARY]
 # With LIBRARY, layout-text is built over that static library first (see
 # tools/layout-text/build.sh); otherwise it is built only where it is missing.
@@ -41,6 +42,24 @@ for name in $texts; do
     "$tool" assemble "$work/shown.layout" > "$work/again" 2> /dev/null
     compare "$name, shown and assembled again" "$work/bundle" "$work/again"
   fi
+done
+
+# A set of the page begins with `// passes` or with `// type`, the types and a colon, and ends with an empty line. Its file is named
+# after the line that it begins on.
+rm -f "$work"/page-*
+awk -v work="$work" '
+  /^    \/\/ (passes|types? [1-8])/ { file = sprintf("%s/page-%04d", work, NR) }
+  /^$/ && file { close(file); file = "" }
+  /^    / && !file { print "docs/PASS.md, line " NR ": a set that does not say its answer"; exit 1 }
+  file { print substr($0, 5) > file }' docs/PASS.md
+for set in "$work"/page-*; do
+  sed 's/:.*//; q' "$set" | tr -cd '1-8' > "$work/said"
+  status=0
+  "$tool" explain --text "$set" > "$work/words" 2>&1 || status=$?
+  sed -n 's/^[0-9]*\. .*(type \([1-8]\)).*/\1/p' "$work/words" | tr -d '\n' > "$work/found"
+  # Refused, or no set at all.
+  [ "$status" -le 1 ] || cat "$work/words" >> "$work/found"
+  compare "docs/PASS.md, line ${set##*page-}" "$work/said" "$work/found"
 done
 echo "$passed passed, $failed failed"
 [ "$failed" -eq 0 ]
