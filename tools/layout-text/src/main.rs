@@ -24,7 +24,7 @@ const USAGE: &str = "usage:
   layout-text help
 
 A file that is left out, or `-`, is standard input or output. explain takes FILE as
-text if its name ends in .layout, or if it does not start with byte 60 and is UTF-8
+text if its name ends in .layout, or if it does not start with hex 60 and is UTF-8
 without control characters; --text and --bytes say otherwise. REPORT is a report's
 bytes or its hexadecimal digits; one that is not FILE's is refused, unless --as-given.
 A text may have 4,194,304 bytes.
