@@ -75,7 +75,7 @@ fn main() -> ExitCode {
     let found = arguments(words, allowed);
     let done = found.and_then(|found| match found.help {
         true => run_help(&found),
-        false => run(&found),
+        false => one_standard_input(&found).and_then(|()| run(&found)),
     });
     match done {
         Ok(code) => ExitCode::from(code),
@@ -129,6 +129,25 @@ fn arguments(
         }
     }
     Ok(found)
+}
+
+/// Standard input can be read once only.
+fn one_standard_input(arguments: &Arguments) -> Result<(), Failure> {
+    let Arguments {
+        file,
+        names,
+        report,
+        ..
+    } = arguments;
+    let own = [
+        Some(file.as_deref().unwrap_or("-")),
+        names.as_deref(),
+        report.as_deref(),
+    ];
+    match own.iter().filter(|path| **path == Some("-")).count() > 1 {
+        true => Err(("standard input is asked for twice".to_string(), FAILED)),
+        false => Ok(()),
+    }
 }
 
 fn label(path: Option<&str>) -> &str {

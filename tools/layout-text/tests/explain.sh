@@ -19,6 +19,7 @@ cp samples/winch.layout "$work/elsewhere/set.layout"
 cat > "$work/bin/rt" <<RT
 #!/bin/sh
 echo "rt \$*" >> "$work/calls"
+cat > /dev/null
 for name in names meaning; do
   echo 'a line of the prover'
   echo "rt: \$name proved (4 s)"
@@ -32,6 +33,7 @@ cat > "$copy/tools/layout-text/build.sh" <<BUILD
 #!/bin/sh
 cd "$copy"
 echo "build \$* over \$(cat "\$1")" >> "$work/calls"
+cat > /dev/null
 [ ! -e "$work/unbuilt" ] || { echo 'error: no such crate'; exit 7; }
 cp "$root/tools/layout-text/target/layout-text" tools/layout-text/target/layout-text
 BUILD
@@ -39,10 +41,10 @@ chmod +x "$work/bin/rt" "$copy/tools/layout-text/build.sh"
 PATH=$work/bin:$PATH
 failed=0
 
-# after WHAT CODE CALLS: runs it in another folder, and looks at its exit code and at what it built.
+# after WHAT CODE CALLS [FILE]: runs it in another folder, and looks at its exit code and at what it built.
 after() {
   : > "$work/calls"
-  (cd "$work/elsewhere" && "$copy/tools/explain" set.layout) > "$work/out" 2> "$work/err"
+  (cd "$work/elsewhere" && "$copy/tools/explain" "${4:-set.layout}") > "$work/out" 2> "$work/err" < "$work/elsewhere/set.layout"
   code=$?
   calls=$(tr '\n' ';' < "$work/calls")
   if [ "$code" -ne "$2" ] || [ "$calls" != "$3" ]; then
@@ -59,6 +61,8 @@ says() {
 
 library='rt staticlib layout_c;'
 program='build target/staticlib/liblayout_c.a over a library;'
+after 'help' 0 '' --help
+says out 'Usage: tools/explain'
 after 'the first run' 0 "$library$program"
 says out 'The set passes: 8 definitions'
 says err 'the library: 3 crates, about six minutes'
@@ -72,6 +76,10 @@ after 'a library of one byte' 0 "$library"
 says out 'The set passes'
 rm "$copy/target/staticlib/liblayout_c.a"
 after 'no library' 0 "$library"
+echo 'a law on standard input' > "$copy/crates/meaning/specs/Law.antt"
+echo '//' >> "$copy/include/layout.h"
+after 'the set is standard input' 0 "$library$program" -
+says out 'The set passes: 8 definitions'
 echo 'another law' > "$copy/crates/meaning/specs/Law.antt"
 after 'a law was changed' 0 "$library"
 # Older than what was built, as a file from an archive may be.

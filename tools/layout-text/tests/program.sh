@@ -110,6 +110,8 @@ printf '\377' > "$work/input"
 expect 3 'byte 0 starts no letter' assemble
 expect 2 'byte 0: stranger (3)' show
 expect 3 'wrong argument' show --hex
+expect 3 'standard input is asked for twice' explain --names -
+expect 3 'standard input is asked for twice' explain "$work/bundle" --names - --report -
 expect 3 'usage' frob
 expect 0 'usage' help
 expect 0 'usage' explain --help
