@@ -14,6 +14,23 @@
  *
  * A pointer to a bundle or a buffer may be null only if its length is 0;
  * `written` may never be null.
+ *
+ * Byte order: in the bytes of a bundle and of a report every number of more than
+ * one byte is little-endian. The names that layout_chain takes and writes, and
+ * `*written`, are numbers of C in the machine's own order. docs/FORMAT.md has both
+ * formats byte by byte.
+ *
+ * Alignment: bundles and buffers of bytes may start at any address. `list` must be
+ * aligned as uint16_t, and `written` as size_t.
+ *
+ * Threads: the library has no variables of its own, no heap and no locks, and keeps
+ * nothing from one call to the next. Calls may run at the same time. Several may
+ * read one bundle; each needs a buffer and a `written` of its own, and none of them
+ * may be written by others during the call. A call works on the stack of its
+ * thread: the most that was measured is under 1 MB, with bundles made to go deep,
+ * so give a thread 2 MiB.
+ *
+ * The library is for Linux on x86-64, and of the C library it needs memset alone.
  */
 #ifndef LAYOUT_H
 #define LAYOUT_H

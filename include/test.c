@@ -1,7 +1,10 @@
-/* Calls each function of layout.h once or more and compares the answers.
+/* Calls each function of layout.h once or more and compares the answers; then from
+ * unaligned places, and from threads at the same time.
  * Prints nothing but a count if all are as due; returns 1 otherwise. */
+#define _POSIX_C_SOURCE 200809L
 #include "layout.h"
 
+#include <pthread.h>
 #include <stdio.h>
 #include <string.h>
 
@@ -82,11 +85,129 @@ static void check_chain(void) {
   check(layout_chain(edges, 30, 6, 9, list, 4, &written) == LAYOUT_SHORT, "short");
 }
 
+/* Names of two different bytes: the low byte first in bundle and report, and
+ * numbers of C in the list. */
+static void check_byte_order(void) {
+  static const uint8_t named[36] = {
+      0x60, 1, 0, 2, 0, 0, 0, 0x61, 0x34, 0x12, 0x44, 0, 0, 0, 0, 0, 0, 0,
+      0,    0, 1, 4, 3, 0x30, 0x62, 0x34, 0x12, 0x78, 0x56, 0,
+      0x62, 0x78, 0x56, 0xFF, 0x00, 0};
+  uint8_t out[64];
+  uint16_t list[4] = {0, 0, 0, 0};
+  size_t written = 0;
+  check(layout_report(named, 36, out, 64, &written) == 0, "report");
+  check(written == 22 && out[1] == 1 && out[2] == 0, "count, low byte first");
+  check(out[6] == 0x34 && out[7] == 0x12, "violating name, low byte first");
+  check(out[20] == 0x34 && out[21] == 0x12, "chain name, low byte first");
+  check(layout_chain(named, 36, 0x1234, 0xFF, list, 4, &written) == 0, "chain");
+  check(written == 3 && list[0] == 0x1234 && list[1] == 0x5678 && list[2] == 0xFF,
+        "names as numbers");
+}
+
+/* Bundle and buffer at every offset from an aligned place. */
+static void check_unaligned(void) {
+  uint64_t from[8];
+  uint64_t to[8];
+  for (size_t offset = 0; offset < 8; offset++) {
+    uint8_t *bundle = (uint8_t *)from + offset;
+    uint8_t *out = (uint8_t *)to + offset;
+    uint16_t list[3];
+    size_t written = 0;
+    memcpy(bundle, jagged, 24);
+    check(layout_accept(bundle, 24) == 0, "unaligned accept");
+    check(layout_report(bundle, 24, out, 40, &written) == 0, "unaligned report");
+    check(written == 22 && memcmp(out, jagged_report, 22) == 0, "its bytes");
+    memcpy(bundle, edges, 31);
+    check(layout_renumber(bundle, 31, out, 40, &written) == 0, "unaligned renumber");
+    check(written == 31 && memcmp(out, renumbered, 31) == 0, "its bytes");
+    check(layout_chain(bundle, 31, 9, 6, list, 3, &written) == 0, "unaligned chain");
+    check(written == 3 && list[0] == 9 && list[1] == 8 && list[2] == 6, "its names");
+  }
+}
+
+/* 88 definitions, each of 23 structs one inside the other, and the innermost
+ * refers to the next definition, at depth 24. */
+enum { DEEP_DEFINITIONS = 88, DEEP_STRUCTS = 23 };
+static uint8_t deep[LAYOUT_BYTE_LIMIT];
+static size_t deep_len = 0;
+
+static void put(const uint8_t *from, size_t length) {
+  memcpy(deep + deep_len, from, length);
+  deep_len += length;
+}
+
+static void make_deep(void) {
+  static const uint8_t header[7] = {0x60, DEEP_DEFINITIONS, 0, 0, 0, 0, 0};
+  static const uint8_t level[15] = {0x41, 0, 0, 0, 0, 0, 0, 0,
+                                    0, 0, 1, 0, 0x50, 0xFF, 0};
+  put(header, 7);
+  for (int i = 1; i <= DEEP_DEFINITIONS; i++) {
+    const uint8_t definition[3] = {0x61, (uint8_t)i, 0};
+    const uint8_t next[3] = {0x40, (uint8_t)(i + 1), 0};
+    put(definition, 3);
+    for (int k = 0; k < DEEP_STRUCTS; k++) put(level, 15);
+    put(next, 3);
+  }
+}
+
+/* What one thread does: the same calls many times, in places of its own. */
+struct work {
+  const uint8_t *bundle;
+  size_t length;
+  int rounds;
+  int wrong;
+};
+
+static void *call_often(void *given) {
+  struct work *work = given;
+  static const uint8_t passes[3] = {0x70, 0, 0};
+  const int is_deep = work->bundle == deep;
+  for (int i = 0; i < work->rounds; i++) {
+    uint8_t out[64];
+    uint16_t list[4];
+    size_t written = 0;
+    work->wrong += layout_accept(work->bundle, work->length) != 0;
+    work->wrong += layout_report(work->bundle, work->length, out, 64, &written) != 0;
+    work->wrong += is_deep ? written != 3 || memcmp(out, passes, 3) != 0
+                           : written != 22 || memcmp(out, jagged_report, 22) != 0;
+    work->wrong += layout_chain(edges, 31, 9, 6, list, 4, &written) != 0;
+    work->wrong += written != 3 || list[0] != 9 || list[1] != 8 || list[2] != 6;
+  }
+  return NULL;
+}
+
+/* Two threads share a bundle and two more another one. Their stacks have the 2 MiB
+ * that layout.h says. */
+static void check_threads(void) {
+  struct work work[4] = {{jagged, 24, 20000, 0},
+                         {jagged, 24, 20000, 0},
+                         {deep, deep_len, 200, 0},
+                         {deep, deep_len, 200, 0}};
+  pthread_t threads[4];
+  pthread_attr_t attributes;
+  pthread_attr_init(&attributes);
+  check(pthread_attr_setstacksize(&attributes, 2u << 20) == 0, "a stack of 2 MiB");
+  for (int i = 0; i < 4; i++) {
+    const int made = pthread_create(&threads[i], &attributes, call_often, &work[i]);
+    check(made == 0, "a thread");
+    if (made != 0) return;
+  }
+  for (int i = 0; i < 4; i++) {
+    check(pthread_join(threads[i], NULL) == 0, "its end");
+    check(work[i].wrong == 0, "the answers of a thread");
+  }
+  pthread_attr_destroy(&attributes);
+}
+
 int main(void) {
+  make_deep();
   check_accept();
   check_report();
   check_renumber();
   check_chain();
+  check_byte_order();
+  check_unaligned();
+  check_threads();
   printf("%d checks, %d failed\n", checks, failures);
   return failures == 0 ? 0 : 1;
 }

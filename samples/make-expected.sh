@@ -1,7 +1,8 @@
 #!/bin/sh
 # Writes NAME.report and NAME.expected beside each sample, with the original as
 # the source: the oracle (tools/oracle/build.sh) gives the report's bytes, and
-# layout-text (tools/layout-text/build.sh) puts them into words.
+# layout-text (tools/layout-text/build.sh) puts them into words as they are given,
+# whatever the library says that is linked to it.
 # Usage: samples/make-expected.sh
 set -eu
 cd "$(dirname "$0")/.."
@@ -14,8 +15,8 @@ for name in $names; do
   bundle $name > "$work/bundle"
   tools/oracle/target/oracle report < "$work/bundle" > "$work/report"
   # An exit code other than 0 tells of violations or a refusal.
-  "$tool" explain "$work/bundle" --names "$(text $name)" --report "$work/report" --hex \
+  "$tool" explain "$work/bundle" --names "$(text $name)" --report "$work/report" --as-given --hex \
     > "samples/$name.report" || [ $? -le 2 ]
-  "$tool" explain "$work/bundle" --names "$(text $name)" --report "$work/report" \
+  "$tool" explain "$work/bundle" --names "$(text $name)" --report "$work/report" --as-given \
     > "samples/$name.expected" || [ $? -le 2 ]
 done

@@ -1,5 +1,5 @@
 #!/bin/sh
-# Runs the tests of the Rust calls and of include/layout.h.
+# Runs the tests of the Rust calls and of include/layout.h. Needs rustc and cc.
 # Usage: bindings/rust/test.sh [LIBRARY]
 # LIBRARY is the static library's path, relative to the root of the repository or
 # absolute. Default: the stand-in, tools/bench/target/liblayout_c.a
@@ -22,6 +22,17 @@ rustc --edition 2021 --test --crate-name calls --extern layout="$target/liblayou
   $linked -o "$target/calls" bindings/rust/tests/calls.rs
 "$target/calls" --quiet --test-threads 1
 
-cc -std=c99 -Wall -Wextra -pedantic -Iinclude -o "$target/c_test" include/test.c "$library" \
+# The header alone, in each C and C++ that it is for.
+for standard in c89 c99 c11 c17; do
+  cc -x c -std=$standard -Wall -Wextra -pedantic -Werror -fsyntax-only include/layout.h
+done
+if command -v c++ > /dev/null; then
+  for standard in c++98 c++11 c++14 c++17 c++20; do
+    c++ -x c++ -std=$standard -Wall -Wextra -pedantic -Werror -fsyntax-only include/layout.h
+  done
+else
+  echo 'There is no c++: the header was not tried as C++.'
+fi
+cc -std=c99 -Wall -Wextra -pedantic -pthread -Iinclude -o "$target/c_test" include/test.c "$library" \
   ${LINK_FLAGS:-}
 "$target/c_test"

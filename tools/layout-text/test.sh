@@ -1,5 +1,5 @@
 #!/bin/sh
-# Builds layout-text and runs its tests. tests/random.rs takes its random bundles
+# Builds layout-text and runs its tests and those of tools/explain. tests/random.rs takes its random bundles
 # from the oracle and runs where that is built (tools/oracle/build.sh).
 # Usage: tools/layout-text/test.sh [LIBRARY], as for build.sh
 set -eu
@@ -25,3 +25,4 @@ if [ -f tools/oracle/target/liblayout_oracle.rlib ]; then
   run random -L tools/oracle/target --extern layout_oracle
 fi
 tools/layout-text/tests/program.sh
+tools/layout-text/tests/explain.sh

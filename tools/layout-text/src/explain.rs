@@ -20,6 +20,10 @@ const TITLES: [&str; 8] = [
     "nested jagged",
 ];
 
+/// What a pass leaves open.
+const PASS: &str = "That does not prove that every place is known in time: \
+    docs/PASS.md says what a pass means and what it does not.";
+
 /// What is known about a bundle besides its bytes.
 #[derive(Default)]
 pub struct Source {
@@ -101,7 +105,7 @@ fn explain_violations(
     let edges = counted(bundle.edges.len(), "edge");
     if list.is_empty() {
         return Ok(format!(
-            "The set passes: {definitions}, {edges}, no violations.\n"
+            "The set passes: {definitions}, {edges}, none of the eight findings.\n{PASS}\n"
         ));
     }
     let found = counted(list.len(), "violation");
@@ -131,7 +135,8 @@ fn violation_text(
         .definitions
         .get(place)
         .filter(|definition| definition.name == violation.name)
-        .ok_or("the report is about another bundle: no such definition is there")?;
+        .filter(|definition| may_have(&definition.body, violation))
+        .ok_or("it is about another bundle: no definition there fits one of its violations")?;
     let word = words::type_word(&definition.body);
     let name = names.word(violation.name);
     let kind = violation.kind;
@@ -159,7 +164,21 @@ fn path_text(bundle: &Bundle, path: &[Name], names: &Names) -> String {
     }
 }
 
-/// What is wrong, in a sentence.
+/// Whether a definition of this type can have a violation of that type and path.
+fn may_have(body: &Type, violation: &Violation) -> bool {
+    let path = violation.path.len();
+    match (violation.kind, body) {
+        (1, Type::Group(group)) => group.kind == GroupKind::Enum && path >= 2,
+        (2, Type::Group(group)) => group.kind == GroupKind::Enum && path >= 1,
+        (3, Type::Array(_)) => path >= 1,
+        (4, Type::Group(group)) => group.kind == GroupKind::Struct && path >= 1,
+        (5, Type::Array(array)) => !array.jagged && path == 0,
+        (6..=8, Type::Array(array)) => array.jagged && path == 0,
+        _ => false,
+    }
+}
+
+/// What was found, in a sentence, and no more than the check looked at.
 fn reason(bundle: &Bundle, violation: &Violation, names: &Names) -> String {
     let path = path_text(bundle, &violation.path, names);
     let on_chain = |place: usize| match violation.chain.get(place) {
@@ -172,20 +191,49 @@ fn reason(bundle: &Bundle, violation: &Violation, names: &Names) -> String {
     let itself = violation.chain.len() == 1;
     match violation.kind {
         1 => format!(
-            "The tag reads {path}, which stands in `{first}` after the field of type `{name}`."
+            "The tag reads {path}, and the last field of that name in `{first}` stands after \
+             the last field of type `{name}`."
         ),
-        2 if itself => format!("The tag reads {path}, and the size of `{name}` depends on it."),
+        2 if itself => format!(
+            "The tag reads {path}, a field of the enum's own name, and the enum counts as one of \
+             varying size."
+        ),
         2 => format!(
-            "The tag reads {path}, but `{first}` depends on `{name}`, whose size depends on it."
+            "The tag reads {path}, edges lead from `{first}` to `{name}`, and `{name}` counts as \
+             one of varying size.\n   \
+             The check does not ask whether the field stands before the enum."
         ),
-        3 if itself => format!("The size reads {path}, a field of the array itself."),
-        3 => format!("The size reads {path}, but `{first}` depends on `{name}` itself."),
-        4 => format!("The type of field `{second}` reads {path}, a field that comes later."),
-        5 => "The element's size depends on a field; an array that is not jagged needs \
-              elements of one size."
+        3 if itself => format!("The size reads {path}, a field of the array's own name."),
+        3 => format!(
+            "The size reads {path}, and edges lead from `{first}` to `{name}`.\n   \
+             The check does not ask whether the field stands before the array."
+        ),
+        4 => format!(
+            "The type of field `{second}` reads {path}, a field that comes later{}.",
+            elsewhere(bundle, violation, &name)
+        ),
+        5 => "The element counts as one of varying size: a size or tag in it reads a field, or a \
+              size-union is in it.\n   \
+              The check does not ask whether the elements differ in fact."
             .to_string(),
-        6 => format!("The element of a jagged array must be a struct, and `{second}` is none."),
-        7 => "The element of a jagged array must be a struct or a ref to one.".to_string(),
+        6 => format!(
+            "The element of a jagged array must be a struct, and `{second}`, by its own \
+             definition, is none."
+        ),
+        7 => "The element of a jagged array must be a struct or a ref, and this one, written \
+              inline, is neither."
+            .to_string(),
         _ => "The element of a jagged array has a jagged array inside.".to_string(),
+    }
+}
+
+/// A second definition is held against the fields of the first one of its name.
+fn elsewhere(bundle: &Bundle, violation: &Violation, name: &str) -> String {
+    let same = |definition: &Definition| definition.name == violation.name;
+    match bundle.definitions.iter().position(same) {
+        Some(first) if first != violation.definition => {
+            format!(" in definition {first}, the first of the name `{name}`")
+        }
+        _ => String::new(),
     }
 }

@@ -9,6 +9,7 @@ pub mod lex;
 pub mod names;
 pub mod parse;
 pub mod read;
+pub mod recognise;
 pub mod report;
 pub mod show;
 pub mod tree;

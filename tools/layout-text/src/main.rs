@@ -1,31 +1,51 @@
 //! Bundles as text: `assemble`, `show` and `explain`. README.md describes them.
 
+mod files;
+
+use files::{FileError, Input};
 use layout::Refusal;
 use layout_text::encode::encode;
 use layout_text::explain::{explain, Source};
 use layout_text::names::Names;
 use layout_text::parse::{parse, Text};
 use layout_text::read::read;
+use layout_text::recognise::is_text;
 use layout_text::report::{self, Report};
 use layout_text::show::show;
-use std::io::{self, Read, Write};
+use layout_text::tree::BYTE_LIMIT;
+use std::io::{self, Write};
 use std::process::ExitCode;
 
 const USAGE: &str = "usage:
   layout-text assemble [TEXT] [-o BYTES]
   layout-text show     [BYTES] [--names TEXT] [-o TEXT]
-  layout-text explain  [FILE] [--text | --bytes] [--names TEXT] [--report REPORT] [--hex]
+  layout-text explain  [FILE] [--text | --bytes] [--names TEXT] [--hex]
+                       [--report REPORT [--as-given]]
+  layout-text help
 
-A file that is left out, or `-`, is standard input or output. explain takes a file
-whose name ends in .layout as text and any other as bytes.
+A file that is left out, or `-`, is standard input or output. explain takes FILE as
+text if its name ends in .layout, or if it does not start with hex 60 and is UTF-8
+without control characters; --text and --bytes say otherwise. REPORT is a report's
+bytes or its hexadecimal digits; one that is not FILE's is refused, unless --as-given.
+A text may have 4,194,304 bytes.
 Exit codes: 0 done, and for explain no violation; 1 violations; 2 a bundle that is
-refused; 3 a damaged text, a file that cannot be read, or a wrong command.";
+refused; 3 a damaged text, a report that is not the bundle's, a file that cannot be
+read or written, or a wrong command.
+";
 
 const VIOLATIONS: u8 = 1;
 const REFUSED: u8 = 2;
 const FAILED: u8 = 3;
 
-/// A message and the exit code that goes with it.
+const TEXT_LIMIT: usize = 4 << 20;
+/// Enough for every report, and for the digits of all but the longest.
+const REPORT_LIMIT: usize = 64 << 20;
+/// A bundle and one byte more: enough to know that it is too long.
+const BUNDLE_BYTES: usize = BYTE_LIMIT + 1;
+/// What the program `layout` lends to its report.
+const PROGRAM_OUTPUT: usize = 65_536;
+
+/// A message and the exit code that goes with it; no message where nobody reads.
 type Failure = (String, u8);
 
 #[derive(Default)]
@@ -35,33 +55,50 @@ struct Arguments {
     names: Option<String>,
     report: Option<String>,
     text: Option<bool>,
+    as_given: bool,
     hex: bool,
+    help: bool,
 }
 
 fn main() -> ExitCode {
-    let mut words = std::env::args().skip(1);
+    // A name that is no UTF-8 names no file here, and the message shows it.
+    let words = std::env::args_os().skip(1);
+    let mut words = words.map(|word| word.to_string_lossy().into_owned());
     let verb = words.next().unwrap_or_default();
-    let run = match verb.as_str() {
-        "assemble" => run_assemble,
-        "show" => run_show,
-        "explain" => run_explain,
-        "help" | "-h" | "--help" => {
-            println!("{USAGE}");
-            return ExitCode::SUCCESS;
-        }
-        _ => |_: &Arguments| Err((USAGE.to_string(), FAILED)),
+    let (run, allowed): (fn(&Arguments) -> Result<u8, Failure>, &[&str]) = match verb.as_str() {
+        "assemble" => (run_assemble, &["-o"]),
+        "show" => (run_show, &["-o", "--names"]),
+        "explain" => (run_explain, &EXPLAIN_OPTIONS),
+        "help" | "-h" | "--help" => (run_help, &[]),
+        _ => (|_| Err((USAGE.to_string(), FAILED)), &[]),
     };
-    let allowed: &[&str] = match verb.as_str() {
-        "assemble" => &["-o"],
-        "show" => &["-o", "--names"],
-        _ => &["--names", "--report", "--text", "--bytes", "--hex"],
-    };
-    match arguments(words, allowed).and_then(|found| run(&found)) {
+    let found = arguments(words, allowed);
+    let done = found.and_then(|found| match found.help {
+        true => run_help(&found),
+        false => one_standard_input(&found).and_then(|()| run(&found)),
+    });
+    match done {
         Ok(code) => ExitCode::from(code),
         Err((message, code)) => {
-            eprintln!("{message}");
+            note(&message);
             ExitCode::from(code)
         }
+    }
+}
+
+const EXPLAIN_OPTIONS: [&str; 6] = [
+    "--names",
+    "--report",
+    "--as-given",
+    "--text",
+    "--bytes",
+    "--hex",
+];
+
+/// A line on standard error. If even that cannot be written, the exit code tells.
+fn note(message: &str) {
+    if !message.is_empty() {
+        let _ = writeln!(io::stderr(), "{}", message.trim_end());
     }
 }
 
@@ -72,8 +109,9 @@ fn arguments(
     let wrong = |word: &str| (format!("wrong argument `{word}`\n{USAGE}"), FAILED);
     let mut found = Arguments::default();
     while let Some(word) = words.next() {
+        let help = ["-h", "--help"].contains(&word.as_str());
         let option = word.starts_with('-') && word != "-";
-        if option && !allowed.contains(&word.as_str()) {
+        if option && !help && !allowed.contains(&word.as_str()) {
             return Err(wrong(&word));
         }
         let mut value = || words.next().ok_or_else(|| wrong(&word)).map(Some);
@@ -81,14 +119,35 @@ fn arguments(
             "-o" => found.out = value()?,
             "--names" => found.names = value()?,
             "--report" => found.report = value()?,
+            "--as-given" => found.as_given = true,
             "--text" => found.text = Some(true),
             "--bytes" => found.text = Some(false),
             "--hex" => found.hex = true,
+            _ if help => found.help = true,
             _ if found.file.is_none() => found.file = Some(word),
             _ => return Err(wrong(&word)),
         }
     }
     Ok(found)
+}
+
+/// Standard input can be read once only.
+fn one_standard_input(arguments: &Arguments) -> Result<(), Failure> {
+    let Arguments {
+        file,
+        names,
+        report,
+        ..
+    } = arguments;
+    let own = [
+        Some(file.as_deref().unwrap_or("-")),
+        names.as_deref(),
+        report.as_deref(),
+    ];
+    match own.iter().filter(|path| **path == Some("-")).count() > 1 {
+        true => Err(("standard input is asked for twice".to_string(), FAILED)),
+        false => Ok(()),
+    }
 }
 
 fn label(path: Option<&str>) -> &str {
@@ -98,22 +157,55 @@ fn label(path: Option<&str>) -> &str {
     }
 }
 
-fn input(path: Option<&str>) -> Result<Vec<u8>, Failure> {
+fn unread(path: Option<&str>) -> impl Fn(FileError) -> Failure + '_ {
+    move |error| match error {
+        FileError::Gone => (format!("{}: cannot be read", label(path)), FAILED),
+        FileError::Failed(why) => (format!("{}: cannot be read: {why}", label(path)), FAILED),
+    }
+}
+
+/// All of a file, of at most so many bytes.
+fn whole(path: Option<&str>, most: usize, what: &str) -> Result<Vec<u8>, Failure> {
     let mut bytes = Vec::new();
-    let done = match path {
-        None | Some("-") => io::stdin().read_to_end(&mut bytes).map(|_| ()),
-        Some(path) => std::fs::read(path).map(|found| bytes = found),
-    };
-    done.map_err(|error| (format!("{}: {error}", label(path)), FAILED))?;
+    let mut input = Input::open(path).map_err(unread(path))?;
+    input.read_on(&mut bytes, most + 1).map_err(unread(path))?;
+    match bytes.len() > most {
+        true => Err(too_long(path, most, what)),
+        false => Ok(bytes),
+    }
+}
+
+fn too_long(path: Option<&str>, most: usize, what: &str) -> Failure {
+    let place = label(path);
+    (
+        format!("{place}: more than {most} bytes, too many for {what}"),
+        FAILED,
+    )
+}
+
+/// The bytes of a bundle, or one more than a bundle may have.
+fn bundle_bytes(path: Option<&str>) -> Result<Vec<u8>, Failure> {
+    let mut bytes = Vec::new();
+    let mut input = Input::open(path).map_err(unread(path))?;
+    input
+        .read_on(&mut bytes, BUNDLE_BYTES)
+        .map_err(unread(path))?;
     Ok(bytes)
 }
 
 fn output(path: Option<&str>, bytes: &[u8]) -> Result<(), Failure> {
-    let done = match path {
-        None | Some("-") => io::stdout().write_all(bytes),
-        Some(path) => std::fs::write(path, bytes),
+    let place = match path {
+        None | Some("-") => "standard output",
+        Some(path) => path,
     };
-    done.map_err(|error| (format!("output: {error}"), FAILED))
+    files::write(path, bytes).map_err(|error| match error {
+        FileError::Gone => (String::new(), FAILED),
+        FileError::Failed(why) => (format!("{place}: cannot be written: {why}"), FAILED),
+    })
+}
+
+fn text_from(path: Option<&str>) -> Result<Text, Failure> {
+    parse_file(path, whole(path, TEXT_LIMIT, "a text")?)
 }
 
 fn parse_file(path: Option<&str>, bytes: Vec<u8>) -> Result<Text, Failure> {
@@ -136,7 +228,7 @@ fn encoded(path: Option<&str>, text: &Text) -> Result<Vec<u8>, Failure> {
 fn names_from(path: Option<&str>) -> Result<Names, Failure> {
     match path {
         None => Ok(Names::default()),
-        Some(_) => Ok(parse_file(path, input(path)?)?.names),
+        Some(_) => Ok(text_from(path)?.names),
     }
 }
 
@@ -149,7 +241,7 @@ fn source_of(text: Text) -> Source {
 
 /// Names from a text, and its lines if it is the text of these bytes.
 fn source_from(path: Option<&str>, bytes: &[u8]) -> Result<Source, Failure> {
-    let text = parse_file(path, input(path)?)?;
+    let text = text_from(path)?;
     let same = encode(&text.bundle).is_ok_and(|own| own == bytes);
     let mut source = source_of(text);
     if !same {
@@ -158,21 +250,28 @@ fn source_from(path: Option<&str>, bytes: &[u8]) -> Result<Source, Failure> {
     Ok(source)
 }
 
+fn run_help(_: &Arguments) -> Result<u8, Failure> {
+    output(None, USAGE.as_bytes())?;
+    Ok(0)
+}
+
 fn run_assemble(arguments: &Arguments) -> Result<u8, Failure> {
     let path = arguments.file.as_deref();
-    let text = parse_file(path, input(path)?)?;
+    let text = text_from(path)?;
     let bytes = encoded(path, &text)?;
     output(arguments.out.as_deref(), &bytes)?;
     if let Err(refusal) = layout::accept(&bytes) {
         let place = label(path);
-        eprintln!("{place}: assembled, but the checks will refuse it: {refusal}");
+        note(&format!(
+            "{place}: assembled, but the checks will refuse it: {refusal}"
+        ));
     }
     Ok(0)
 }
 
 fn run_show(arguments: &Arguments) -> Result<u8, Failure> {
     let path = arguments.file.as_deref();
-    let bytes = input(path)?;
+    let bytes = bundle_bytes(path)?;
     let names = names_from(arguments.names.as_deref())?;
     let bundle = read(&bytes).map_err(|fault| (format!("{}: {fault}", label(path)), REFUSED))?;
     output(arguments.out.as_deref(), show(&bundle, &names).as_bytes())?;
@@ -180,23 +279,14 @@ fn run_show(arguments: &Arguments) -> Result<u8, Failure> {
 }
 
 fn run_explain(arguments: &Arguments) -> Result<u8, Failure> {
-    let path = arguments.file.as_deref();
-    let given = input(path)?;
-    let by_ending = path.is_some_and(|path| path.ends_with(".layout"));
-    let (bytes, own) = match arguments.text.unwrap_or(by_ending) {
-        true => {
-            let text = parse_file(path, given)?;
-            (encoded(path, &text)?, source_of(text))
-        }
-        false => (given, Source::default()),
-    };
+    let (bytes, own) = set_from(arguments)?;
     let source = match arguments.names.as_deref() {
         None => own,
         given => source_from(given, &bytes)?,
     };
-    let answer = match &arguments.report {
+    let answer = match arguments.report.as_deref() {
         None => answer_of(&bytes),
-        given => input(given.as_deref())?,
+        given => stored_answer(given, &bytes, arguments.as_given)?,
     };
     let failure = |message| (format!("the report: {message}"), FAILED);
     let report = report::read(&answer).map_err(failure)?;
@@ -210,6 +300,46 @@ fn run_explain(arguments: &Arguments) -> Result<u8, Failure> {
         Report::Violations(list) if list.is_empty() => 0,
         Report::Violations(_) => VIOLATIONS,
     })
+}
+
+/// The bytes of the set to explain, and what its text says besides.
+fn set_from(arguments: &Arguments) -> Result<(Vec<u8>, Source), Failure> {
+    let path = arguments.file.as_deref();
+    let mut given = Vec::new();
+    let mut input = Input::open(path).map_err(unread(path))?;
+    input
+        .read_on(&mut given, BUNDLE_BYTES)
+        .map_err(unread(path))?;
+    let by_ending = path.is_some_and(|path| path.ends_with(".layout"));
+    let by_itself = by_ending || is_text(&given);
+    if !arguments.text.unwrap_or(by_itself) {
+        return Ok((given, Source::default()));
+    }
+    input
+        .read_on(&mut given, TEXT_LIMIT + 1)
+        .map_err(unread(path))?;
+    if given.len() > TEXT_LIMIT {
+        return Err(too_long(path, TEXT_LIMIT, "a text"));
+    }
+    let text = parse_file(path, given)?;
+    Ok((encoded(path, &text)?, source_of(text)))
+}
+
+/// A report that was stored. It is this bundle's if the library gives the same, or
+/// if it is the refusal that the program gives where the library's is too long.
+fn stored_answer(path: Option<&str>, bytes: &[u8], as_given: bool) -> Result<Vec<u8>, Failure> {
+    let failure = |message: String| (format!("{}: {message}", label(path)), FAILED);
+    let file = whole(path, REPORT_LIMIT, "a report")?;
+    let given = report::from_file(file).map_err(failure)?;
+    report::read(&given).map_err(failure)?;
+    let own = answer_of(bytes);
+    let narrow = own.len() > PROGRAM_OUTPUT && given == [0x7E, Refusal::Narrow.number()];
+    match report::difference(&given, &own) {
+        Some(difference) if !as_given && !narrow => Err(failure(format!(
+            "not this bundle's report: {difference} (--as-given takes it all the same)"
+        ))),
+        _ => Ok(given),
+    }
 }
 
 /// What the library answers, as the program would write it, but without a limit

@@ -22,8 +22,9 @@ pub struct Text {
     pub lines: Vec<usize>,
 }
 
+/// A byte order mark at the start is passed over.
 pub fn parse(text: &str) -> Parsed<Text> {
-    let tokens = tokens(text)?;
+    let tokens = tokens(text.strip_prefix('\u{FEFF}').unwrap_or(text))?;
     let mut names = Names::default();
     for placed in &tokens {
         if let Token::Numbered(number) = placed.token {

@@ -36,7 +36,7 @@ pub fn read(bytes: &[u8]) -> Read<Bundle> {
         reader.at = BYTE_LIMIT;
         return reader.fault(
             Refusal::Overlong,
-            format!("there are {} bytes", bytes.len()),
+            format!("there are {} bytes or more", bytes.len()),
         );
     }
     let bundle = reader.bundle()?;

@@ -1,4 +1,4 @@
-//! The bytes of a report to violations.
+//! The bytes of a report to violations, and a file of hexadecimal digits to bytes.
 
 use crate::tree::Name;
 
@@ -38,6 +38,51 @@ pub fn read(bytes: &[u8]) -> Result<Report, String> {
             reader.at
         )),
     }
+}
+
+/// The bytes that a report's file stands for: its own, or those that it has as
+/// hexadecimal digits. A report starts with 70 or 7E, which is no such digit.
+pub fn from_file(file: Vec<u8>) -> Result<Vec<u8>, String> {
+    let digit = |byte: &u8| char::from(*byte).to_digit(16);
+    let mut visible = file.iter().filter(|byte| !byte.is_ascii_whitespace());
+    if !visible.next().is_some_and(|byte| digit(byte).is_some()) {
+        return Ok(file);
+    }
+    let mut bytes = Vec::new();
+    for word in file.split(|byte| byte.is_ascii_whitespace()) {
+        let digits: Option<Vec<u32>> = word.iter().map(digit).collect();
+        let digits = digits.filter(|digits| digits.len() % 2 == 0);
+        let Some(digits) = digits else {
+            let word = String::from_utf8_lossy(&word[..word.len().min(20)]);
+            return Err(format!(
+                "`{word}` is not made of pairs of hexadecimal digits"
+            ));
+        };
+        let pairs = digits.chunks(2).map(|pair| (pair[0] * 16 + pair[1]) as u8);
+        bytes.extend(pairs);
+    }
+    Ok(bytes)
+}
+
+/// Where two reports differ, in words: what the first has and what the second.
+pub fn difference(given: &[u8], own: &[u8]) -> Option<String> {
+    if given == own {
+        return None;
+    }
+    let same = given
+        .iter()
+        .zip(own)
+        .take_while(|(one, other)| one == other);
+    let at = same.count();
+    let byte = |list: &[u8]| match list.get(at) {
+        Some(byte) => format!("{byte:02X}"),
+        None => "the end".to_string(),
+    };
+    Some(format!(
+        "byte {at} is {}, and in this bundle's it is {}",
+        byte(given),
+        byte(own)
+    ))
 }
 
 struct Reader<'a> {

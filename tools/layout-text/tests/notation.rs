@@ -1,8 +1,12 @@
-//! The notation on small texts: bytes, numbers of names, faults with their place.
+//! The notation on small texts: bytes, numbers of names, faults with their place;
+//! what is taken as text; stored reports; the words for findings.
 
 use layout_text::encode::encode;
+use layout_text::explain::{explain, Source};
 use layout_text::parse::parse;
 use layout_text::read::read;
+use layout_text::recognise::is_text;
+use layout_text::report::{self, Report, Violation};
 use layout_text::show::show;
 use layout_text::tree::{Expr, Type};
 
@@ -166,4 +170,128 @@ fn reading_stops_at_the_fault() {
     let longer = [&sound[..], &[0, 0]].concat();
     assert_eq!(position(&longer), (7, sound.len()));
     assert_eq!(position(&[0x60; 40_000]), (1, 32_768));
+}
+
+#[test]
+fn a_byte_order_mark_is_passed_over() {
+    let text = "define trace jagged array [3u8] u8";
+    assert_eq!(bytes(&format!("\u{FEFF}{text}")), bytes(text));
+    assert_eq!(fault("\u{FEFF}define a u9").1, 10);
+    // Anywhere else it is a letter without meaning.
+    assert_eq!(fault("define\u{FEFF} a u8").1, 7);
+}
+
+#[test]
+fn text_is_told_from_bytes() {
+    assert!(is_text(b"define a u8"));
+    assert!(is_text(b"\r\n\t// nothing\n"));
+    assert!(is_text("\u{FEFF}define ö u8".as_bytes()));
+    // Cut off within a letter, as at the end of what was read first.
+    assert!(is_text(&"define ö".as_bytes()[..8]));
+    assert!(!is_text(b""));
+    assert!(!is_text(b"`"));
+    assert!(!is_text(b"a\x01\x00"));
+    assert!(!is_text(b"define \xFF"));
+    assert!(!is_text(&bytes("define a u8")));
+    assert!(!is_text(&bytes("")[1..]));
+}
+
+#[test]
+fn stored_reports_are_bytes_or_digits() {
+    let own = vec![0x70, 1, 0x77, 0x0A];
+    assert_eq!(report::from_file(own.clone()), Ok(own.clone()));
+    assert_eq!(report::from_file(b"70 01\n770a\n".to_vec()), Ok(own));
+    assert_eq!(report::from_file(b"\n7e 02".to_vec()), Ok(vec![0x7E, 2]));
+    assert_eq!(report::from_file(Vec::new()), Ok(Vec::new()));
+    assert!(report::from_file(b"70 1".to_vec()).is_err());
+    assert!(report::from_file(b"70 0g".to_vec()).is_err());
+    // No digit at the start: bytes, which are no report.
+    let other = report::from_file(b"~\x02".to_vec()).unwrap();
+    assert_eq!(report::read(&other), Ok(Report::Refused(2)));
+}
+
+#[test]
+fn differences_of_reports_have_a_place() {
+    let told = |given: &[u8]| report::difference(given, &[0x70, 1, 0]);
+    assert_eq!(told(&[0x70, 1, 0]), None);
+    assert!(told(&[0x70, 2, 0]).unwrap().contains("byte 1 is 02"));
+    assert!(told(&[0x70, 1]).unwrap().contains("byte 2 is the end"));
+    let longer = told(&[0x70, 1, 0, 0]).unwrap();
+    assert!(longer.contains("byte 3 is 00") && longer.contains("the end"));
+}
+
+/// The words for one violation of a text's definition, with this path and chain.
+fn words(text: &str, kind: u8, definition: usize, path: &[u16], chain: &[u16]) -> String {
+    let parsed = parse(text).unwrap_or_else(|error| panic!("{error}"));
+    let violation = Violation {
+        kind,
+        definition,
+        name: parsed.bundle.definitions[definition].name,
+        path: path.to_vec(),
+        chain: chain.to_vec(),
+    };
+    let report = Report::Violations(vec![violation]);
+    let source = Source {
+        names: parsed.names,
+        lines: parsed.lines,
+    };
+    match explain(&encode(&parsed.bundle).unwrap(), &report, &source) {
+        Ok(words) => words,
+        Err(message) => format!("refused: {message}"),
+    }
+}
+
+#[test]
+fn findings_claim_what_was_looked_at() {
+    let array = "define s struct { n: u8 a: ref a } define a array [s.n] u8";
+    let found = words(array, 3, 1, &[1, 2], &[1, 3]);
+    assert!(found.contains("edges lead from `s` to `a`"), "{found}");
+    assert!(found.contains("does not ask whether"), "{found}");
+    let found = words(array, 5, 1, &[], &[3]);
+    assert!(found.contains("does not ask whether"), "{found}");
+    let second = "define s struct { x: u8 n: u8 } define s struct { a: ref a n: u8 }";
+    let found = words(second, 4, 1, &[1, 3], &[1, 4, 3]);
+    assert!(
+        found.contains("later in definition 0, the first"),
+        "{found}"
+    );
+    let own = "define e enum (e.k) { a = 1: u8 b = 2: u16 }";
+    let found = words(own, 2, 0, &[1, 2], &[1]);
+    assert!(found.contains("the enum's own name"), "{found}");
+}
+
+#[test]
+fn a_pass_is_no_more_than_the_absence_of_findings() {
+    let report = Report::Violations(Vec::new());
+    let found = explain(&bytes("define a u8"), &report, &Source::default()).unwrap();
+    assert!(found.contains("none of the eight findings"), "{found}");
+    assert!(found.contains("docs/PASS.md"), "{found}");
+}
+
+#[test]
+fn violations_must_fit_their_definition() {
+    let sets = [
+        ("define e enum (s.k) { a = 1: u8 }", vec![1, 2]),
+        ("define a array [s.n] u8", vec![3, 5]),
+        ("define j jagged array [s.n] u8", vec![3, 6, 7, 8]),
+        ("define s struct { a: u8 }", vec![4]),
+        ("define u union { a: u8 }", vec![]),
+        ("define z size-union { a = 1: u8 }", vec![]),
+        ("define p u8", vec![]),
+    ];
+    for (text, kinds) in sets {
+        for kind in 1..=8 {
+            let path: &[u16] = if kind < 5 { &[1, 2] } else { &[] };
+            let found = words(text, kind, 0, path, &[1, 2, 3]);
+            assert_eq!(
+                !found.starts_with("refused"),
+                kinds.contains(&kind),
+                "{found}"
+            );
+        }
+    }
+    let path_missing = words("define a array [s.n] u8", 3, 0, &[], &[1]);
+    assert!(path_missing.starts_with("refused"), "{path_missing}");
+    let path_given = words("define a array [s.n] u8", 5, 0, &[1], &[1]);
+    assert!(path_given.starts_with("refused"), "{path_given}");
 }
