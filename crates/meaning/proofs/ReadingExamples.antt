@@ -4,7 +4,7 @@ use mathlib.Core.Path.{_≡_, refl}
 use mathlib.Core.List.{List, [], _∷_, _++_}
 use Rattle.meaning.specs.Limits.{depthLimit}
 use Rattle.meaning.specs.Kinds.{lookup}
-use Rattle.meaning.specs.Tree.{Bundle, literal, array, primitive}
+use Rattle.meaning.specs.Small.{sample, sampleTree}
 use lib.ListN.{replicate}
 use Rattle.meaning.specs.Reader.{Read, ok, refused, due, little, many}
 use Rattle.meaning.specs.ReadBundle.{recordBody, opening, readDefinition, readHeader, end, readEdges, readRest, readRecords, readBundle}
@@ -23,13 +23,6 @@ no-bytes = refl
 pub own-reference : acceptance (0x60 ∷ 1 ∷ 0 ∷ 0 ∷ 0 ∷ 0 ∷ 0 ∷ 0x61 ∷ 1 ∷ 0 ∷ 0x40 ∷ 1 ∷ 0 ∷ []) ≡ refusal 8
 unfolding acceptance onBundle dueOf readBundle readRecords readHeader opening recordBody due little many readDefinition readTy typeAfter typeBody readRest readEdges end lookup circles settled leadsTo
 own-reference = refl
-
--- a jagged array of three U8, defined as name 1
-abbrev pub sample : List ℕ
-sample = 0x60 ∷ 1 ∷ 0 ∷ 0 ∷ 0 ∷ 0 ∷ 0 ∷ 0x61 ∷ 1 ∷ 0 ∷ 0x44 ∷ 0 ∷ 0 ∷ 0 ∷ 0 ∷ 0 ∷ 0 ∷ 0 ∷ 0 ∷ 0 ∷ 1 ∷ 0x04 ∷ 3 ∷ 0x30 ∷ []
-
-abbrev pub sampleTree : Bundle
-sampleTree = record { current = 0; definitions = record { name = 1; type = array (record { packed = 0; aligned = 0 }) 1 (literal 0x04 3) (primitive 0x30) } ∷ []; edges = [] }
 
 pub sample-read : readBundle sample ≡ ok sampleTree 24
 unfolding readBundle readRecords readHeader opening recordBody due little many readDefinition readTy typeAfter typeBody readArray arrayHead head readExpr exprAfter exprBody readRest readEdges end lookup

@@ -1,8 +1,8 @@
--- `layout_c::layout_renumber` meets its contract. Assumes nothing.
+-- `layout_c::layout_renumber` meets its contract.
 use borrow.Author.Needs.{needs}
 use Rattle.layout_c.proofs.layout_renumber.Statement.{statement}
 use Rattle.layout_c.proofs.layout_renumber.Tie as tie
-use Rattle.layout_c.proofs.CallLaws.{in-c}
+use Rattle.layout_c.proofs.CallLaws.{renumber-in-c}
 
 renumber-requires : tie.Need-renumber-requires
 renumber-requires c κs = search needs
@@ -17,7 +17,7 @@ same-length : tie.Need-same-length
 same-length c = search needs
 
 returns : tie.Need-returns
-returns c = in-c (c .before .before .before .before .before .renumber .ensures) (c .before .length-out .ensures) (c .code .ensures)
+returns c = renumber-in-c _ (c .before .before .before .before .before .renumber .ensures) (c .before .length-out .ensures) (c .code .ensures)
 
 pub layout-renumber-spec : {M : Type 1} → statement M
 layout-renumber-spec =

@@ -1,8 +1,8 @@
--- `layout_c::layout_report` meets its contract. Assumes nothing.
+-- `layout_c::layout_report` meets its contract.
 use borrow.Author.Needs.{needs}
 use Rattle.layout_c.proofs.layout_report.Statement.{statement}
 use Rattle.layout_c.proofs.layout_report.Tie as tie
-use Rattle.layout_c.proofs.CallLaws.{in-c}
+use Rattle.layout_c.proofs.CallLaws.{report-in-c}
 
 report-requires : tie.Need-report-requires
 report-requires c κs = search needs
@@ -17,7 +17,7 @@ same-length : tie.Need-same-length
 same-length c = search needs
 
 returns : tie.Need-returns
-returns c = in-c (c .before .before .before .before .before .report .ensures) (c .before .length-out .ensures) (c .code .ensures)
+returns c = report-in-c _ (c .before .before .before .before .before .report .ensures) (c .before .length-out .ensures) (c .code .ensures)
 
 pub layout-report-spec : {M : Type 1} → statement M
 layout-report-spec =

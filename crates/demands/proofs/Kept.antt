@@ -1,0 +1,58 @@
+-- A bundle keeps the layout, with references that never circle, exactly where it is accepted (`Accepted`, the meaning's Calls.antt).
+-- Whether bytes are those of such a bundle is decided.
+use Prim.Native.Nat.{ℕ}
+use native.Mathlib.Omega.{arith}
+use mathlib.Core.Bool.{Bool, true, false, true≢false}
+use mathlib.Core.Logic.{_⊎_, inl, inr}
+use mathlib.Core.Path.{_≡_, refl, sym, subst, _∙_}
+use mathlib.Core.List.{List}
+use lib.ListN.{length}
+use Rattle.meaning.specs.Tree.{Bundle}
+use Rattle.meaning.specs.Encoding.{Bytes, bundleBytes}
+use Rattle.meaning.specs.Reader.{Read, ok, refused}
+use Rattle.meaning.specs.ReadBundle.{readBundle}
+use Rattle.meaning.specs.Circle.{circles, Leads}
+use Rattle.meaning.specs.Calls.{Accepted}
+use Rattle.meaning.proofs.Circle.{circles-iff}
+use Rattle.meaning.proofs.BundleBack.{bundle-read-back}
+use Rattle.meaning.proofs.Acceptance.{accepted-of}
+use Rattle.refusals.specs.Numbers.{Keeps}
+use Rattle.refusals.proofs.Laws.{one-number}
+use Rattle.demands.specs.Demands.{Cases}
+
+pub accepted-kept : {s : List ℕ} (a : Accepted s) → Keeps s (a .tree)
+accepted-kept a = record {
+  bundle = record { layout = a .encoded; limits = a .within };
+  no-circle = λ i l. true≢false (sym (circles-iff (a .tree) .1 (i, l)) ∙ a .no-circle);
+}
+
+unfoldable pub kept-accepted : {s : List ℕ} {b : Bundle} → Keeps s b → Accepted s
+kept-accepted {b = b} k = record { tree = b; within = k .bundle .limits; no-circle = go (circles b) refl; encoded = k .bundle .layout }
+  where
+    go : (t : Bool) → circles b ≡ t → circles b ≡ false
+    go true e = let r = circles-iff b .0 e in absurd (k .no-circle (r .0) (r .1))
+    go false e = e
+
+module _ (s : List ℕ) (bytes : Bytes s) where
+  read-kept : (b : Bundle) → Keeps s b → readBundle s ≡ ok b (length (bundleBytes b))
+  read-kept b k = subst (λ t. readBundle t ≡ ok b (length (bundleBytes b))) (k .bundle .layout) (bundle-read-back b (k .bundle .limits))
+
+  same-tree : {b c : Bundle} {m n : ℕ} → ok b m ≡ ok c n → b ≡ c
+  same-tree e = cc
+
+  decided : (x : Read Bundle) → readBundle s ≡ x → ((b : Bundle) × Keeps s b) ⊎ ((b : Bundle) → Keeps s b → ⊥)
+  decided (ok b n) r = go (circles b) refl
+    where
+      go : (t : Bool) → circles b ≡ t → ((b : Bundle) × Keeps s b) ⊎ ((b : Bundle) → Keeps s b → ⊥)
+      go true c =
+          let l = circles-iff b .0 c in
+          inr (λ d k. k .no-circle (l .0) (subst (λ d. Leads d (l .0) (l .0)) (same-tree (sym r ∙ read-kept d k)) (l .1)))
+      go false c = let a = accepted-of s bytes b n r c in inl (a .tree, accepted-kept a)
+  decided (refused k) r = inr (λ b h. let e = sym r ∙ read-kept b h in let z : _≡_ {A = ℕ} 0 1 = cc in absurd (omega arith))
+
+  pub cases : Cases s
+  cases = record {
+    either = decided (readBundle s) refl;
+    one-bundle = λ b c p q. same-tree (sym (read-kept b p) ∙ read-kept c q);
+    one-number = λ j k p q. one-number s bytes j p ∙ sym (one-number s bytes k q);
+  }
