@@ -5,7 +5,7 @@ use Rattle.demanded.proofs.report_renumbered.Tie as tie
 use native.Mathlib.Omega.{arith}
 use Rattle.bundle.specs.Opened.{answerMeant}
 use Rattle.demands.proofs.Renumbered.{reported-demand, refused-demand}
-use Rattle.demanded.proofs.Answers.{accepted-call, accepted-size, accepted-within, refused-call}
+use Rattle.demanded.proofs.Told.{accepted-call, accepted-size, accepted-within, refused-call}
 
 renumber-requires : tie.Need-renumber-requires
 renumber-requires c κs = search needs
