@@ -30,9 +30,6 @@ renumbered d = bytes (mapNames (numbering (names d)) d)
 scanned : {s : List ℕ} {c : Bundle} → Keeps s c → items body s ≡ bundleItems c
 scanned {c = c} k = ap (items body) (sym (k .bundle .layout)) ∙ bundle-items c (k .bundle .limits)
 
-pub renumbered-due : (b : Bundle) → BundleOk b → RenumberedOf b (renumberBytes body (bundleBytes b))
-renumbered-due b o = ap renumbered (bundle-items b o)
-
 module _ {s : List ℕ} {c : Bundle} (k : Keeps s c) (xs : List ℕ) (e : RenumberedOf c xs) where
   by-scan : xs ≡ renumberBytes body s
   by-scan = e ∙ ap renumbered (sym (scanned k))
@@ -62,3 +59,7 @@ module _ {s t : List ℕ} {c d : Bundle} (k : Keeps s c) (l : Keeps t d) where
       let p = by-scan k xs e in
       let q = by-scan l ys f in
       (λ z. alike-trees .0 (same .0 (sym p ∙ z ∙ q)), λ a. p ∙ same .1 (alike-trees .1 a) ∙ sym q)
+
+-- the result that is due to the call is such a one
+pub renumbered-due : (b : Bundle) → BundleOk b → RenumberedOf b (renumberBytes body (bundleBytes b))
+renumbered-due b o = ap renumbered (bundle-items b o)

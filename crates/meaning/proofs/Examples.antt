@@ -1,7 +1,6 @@
 -- Document 01's marked examples that speak of trees, and its example report, each by computation.
-use Prim.Native.Nat.{ℕ}
 use mathlib.Core.Path.{_≡_, refl}
-use mathlib.Core.List.{List, [], _∷_}
+use mathlib.Core.List.{[], _∷_}
 use mathlib.Core.Bool.{true, false}
 use mathlib.Core.Option.{none, some, orElse}
 use Rattle.meaning.specs.Chain.{chainOf, firstWalk, walkOf, firstOf, onlyIf}
