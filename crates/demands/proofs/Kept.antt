@@ -6,18 +6,17 @@ use mathlib.Core.Bool.{Bool, true, false, true≢false}
 use mathlib.Core.Logic.{_⊎_, inl, inr}
 use mathlib.Core.Path.{_≡_, refl, sym, subst, _∙_}
 use mathlib.Core.List.{List}
-use lib.ListN.{length}
 use Rattle.meaning.specs.Tree.{Bundle}
-use Rattle.meaning.specs.Encoding.{Bytes, bundleBytes}
+use Rattle.meaning.specs.Encoding.{Bytes}
 use Rattle.meaning.specs.Reader.{Read, ok, refused}
 use Rattle.meaning.specs.ReadBundle.{readBundle}
 use Rattle.meaning.specs.Circle.{circles, Leads}
 use Rattle.meaning.specs.Calls.{Accepted}
 use Rattle.meaning.proofs.Circle.{circles-iff}
-use Rattle.meaning.proofs.BundleBack.{bundle-read-back}
 use Rattle.meaning.proofs.Acceptance.{accepted-of}
 use Rattle.refusals.specs.Numbers.{Keeps}
-use Rattle.refusals.proofs.Laws.{one-number}
+use Rattle.refusals.proofs.Circles.{read-bundle, one-bundle}
+use Rattle.refusals.proofs.Laws.{one-number, no-number}
 use Rattle.demands.specs.Demands.{Cases}
 
 pub accepted-kept : {s : List ℕ} (a : Accepted s) → Keeps s (a .tree)
@@ -34,25 +33,23 @@ kept-accepted {b = b} k = record { tree = b; within = k .bundle .limits; no-circ
     go false e = e
 
 module _ (s : List ℕ) (bytes : Bytes s) where
-  read-kept : (b : Bundle) → Keeps s b → readBundle s ≡ ok b (length (bundleBytes b))
-  read-kept b k = subst (λ t. readBundle t ≡ ok b (length (bundleBytes b))) (k .bundle .layout) (bundle-read-back b (k .bundle .limits))
-
-  same-tree : {b c : Bundle} {m n : ℕ} → ok b m ≡ ok c n → b ≡ c
-  same-tree e = cc
-
   decided : (x : Read Bundle) → readBundle s ≡ x → ((b : Bundle) × Keeps s b) ⊎ ((b : Bundle) → Keeps s b → ⊥)
   decided (ok b n) r = go (circles b) refl
     where
+      same-tree : {d : Bundle} {m : ℕ} → ok b n ≡ ok d m → b ≡ d
+      same-tree e = cc
+
       go : (t : Bool) → circles b ≡ t → ((b : Bundle) × Keeps s b) ⊎ ((b : Bundle) → Keeps s b → ⊥)
       go true c =
           let l = circles-iff b .0 c in
-          inr (λ d k. k .no-circle (l .0) (subst (λ d. Leads d (l .0) (l .0)) (same-tree (sym r ∙ read-kept d k)) (l .1)))
+          inr (λ d k. k .no-circle (l .0) (subst (λ d. Leads d (l .0) (l .0)) (same-tree (sym r ∙ read-bundle s d (k .bundle))) (l .1)))
       go false c = let a = accepted-of s bytes b n r c in inl (a .tree, accepted-kept a)
-  decided (refused k) r = inr (λ b h. let e = sym r ∙ read-kept b h in let z : _≡_ {A = ℕ} 0 1 = cc in absurd (omega arith))
+  decided (refused k) r = inr (λ b h. let e = sym r ∙ read-bundle s b (h .bundle) in let z : _≡_ {A = ℕ} 0 1 = cc in absurd (omega arith))
 
   pub cases : Cases s
   cases = record {
     either = decided (readBundle s) refl;
-    one-bundle = λ b c p q. same-tree (sym (read-kept b p) ∙ read-kept c q);
+    one-bundle = λ b c p q. one-bundle s b c (p .bundle) (q .bundle);
     one-number = λ j k p q. one-number s bytes j p ∙ sym (one-number s bytes k q);
+    no-number = no-number s;
   }

@@ -33,12 +33,13 @@ pub record Gets (xs before after : List ℕ) (a : Answer) : Type 0 where
   pub full : length xs ≤ length before → Given xs before after a
   pub narrow : length before < length xs → Refused 9 before after a
 
--- The bytes are those of a bundle to be accepted, or of none: there is no third case. They are those of one bundle at most, and there is
--- one number at most for which they are refused.
+-- The bytes are those of a bundle to be accepted, or of none: there is no third case. They are those of one bundle at most. There is one
+-- number at most for which they are refused, and for a bundle to be accepted there is none.
 pub record Cases (s : List ℕ) : Type 0 where
   pub either : ((b : Bundle) × Keeps s b) ⊎ ((b : Bundle) → Keeps s b → ⊥)
   pub one-bundle : (b c : Bundle) → Keeps s b → Keeps s c → b ≡ c
   pub one-number : (j k : ℕ) → Number s j → Number s k → j ≡ k
+  pub no-number : (b : Bundle) → Keeps s b → (k : ℕ) → Number s k → ⊥
 
 -- Every bundle that keeps the layout, with references that never circle, is accepted and its call gets the result; every other call is
 -- refused with the one number (`Number`, the refusals' Numbers.antt). No call is refused with another number than 1 to 9.

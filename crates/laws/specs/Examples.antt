@@ -1,6 +1,7 @@
 -- Examples of reading, writing and renumbering that the document's table of marked ones does not have.
 use Prim.Native.Nat.{ℕ}
 use mathlib.Core.List.{List, [], _∷_, _++_}
+use mathlib.Core.Bool.{true}
 use mathlib.Core.Path.{_≡_}
 use lib.ListN.{replicate}
 use Rattle.names.specs.Records.{renumberBytes}
@@ -10,7 +11,9 @@ use Rattle.meaning.specs.Reader.{Read, ok, refused}
 use Rattle.meaning.specs.ReadExpr.{readExpr}
 use Rattle.meaning.specs.ReadType.{head}
 use Rattle.meaning.specs.Encoding.{bundleBytes}
-use Rattle.meaning.specs.Small.{sample, sampleTree}
+use Rattle.meaning.specs.Tree.{typeRef}
+use Rattle.meaning.specs.Circle.{circles}
+use Rattle.meaning.specs.Small.{one, sample, sampleTree}
 
 -- an expression of n complements over a literal 3 of type U8
 abbrev pub tower : ℕ → List ℕ
@@ -22,6 +25,8 @@ seen (ok a at) = (0, at)
 seen (refused k) = (1, k)
 
 pub record Examples : Type 0 where
+  -- definition 1 as TypeRef 1 leads to itself
+  pub circle-self : circles (one (typeRef 1)) ≡ true
   -- the document's bundle is the encoding of its tree
   pub sample-written : bundleBytes sampleTree ≡ sample
   -- 24 levels are taken, and a 25th is fault 6

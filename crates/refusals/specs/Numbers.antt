@@ -68,6 +68,8 @@ pub record Numbers : Type 0 where
   -- bytes that are not accepted have one number, that of what was read
   pub number : (s : List ℕ) → Bytes s → ((b : Bundle) → Keeps s b → ⊥) → Number s (numberOf s)
   pub one : (s : List ℕ) → Bytes s → (k : ℕ) → Number s k → k ≡ numberOf s
+  -- and accepted bytes have none
+  pub none : (s : List ℕ) (b : Bundle) → Keeps s b → (k : ℕ) → Number s k → ⊥
   -- every number is one of 1 to 8
   pub one-to-eight : (s : List ℕ) → (1 ≤ numberOf s) × (numberOf s ≤ 8)
   -- 1 exactly where there are too many bytes
