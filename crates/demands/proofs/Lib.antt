@@ -1,4 +1,7 @@
-pub mod First
-pub mod Second
-pub mod Third
-pub mod Marked
+pub mod Kept
+pub mod Canonical
+pub mod Answering
+pub mod Chained
+pub mod Renumbered
+pub mod Shut
+pub mod Examples

@@ -1,94 +1,109 @@
--- The three demands on the calls. `Call o before after a` is what each call's contract says (the meaning's Calls.antt): o is due to
--- it, it answers a, and the places that it was lent change from `before` to `after`. Bytes are numbers below 256.
+-- The three demands, in their own words. The contracts of the functions of `demanded` cite them over the calls' arguments, answers and
+-- lent places. `before` and `after` are what the lent places hold before and after the call, a what it answers.
 use Prim.Native.Nat.{ℕ, _≤_, _<_}
-use mathlib.Core.List.{List}
+use mathlib.Core.List.{List, []}
 use mathlib.Core.Logic.{_↔_, _⊎_}
-use mathlib.Core.Option.{none, some}
 use mathlib.Core.Path.{_≡_}
 use lib.ListN.{length, take, drop}
-use Rattle.names.specs.Names.{numbering, Alike}
-use Rattle.names.specs.Documents.{Item, bytes, names, mapNames}
-use Rattle.names.specs.Records.{items, mapBytes}
-use Rattle.meaning.specs.Kinds.{body}
+use Rattle.names.specs.Names.{numbering, Exchange}
+use Rattle.names.specs.Documents.{bytes, names, mapNames}
 use Rattle.meaning.specs.Tree.{Bundle}
-use Rattle.meaning.specs.Encoding.{Bytes}
-use Rattle.meaning.specs.Reader.{Read, ok, refused}
-use Rattle.meaning.specs.ReadBundle.{readBundle}
+use Rattle.meaning.specs.Encoding.{bundleItems, bundleBytes}
 use Rattle.meaning.specs.Chain.{IsWalk, Reaches, Earlier, namesOn}
-use Rattle.meaning.specs.Violations.{graph, findLayoutDependencyChain, violations}
-use Rattle.meaning.specs.Report.{reportItems, reportBytes}
-use Rattle.meaning.specs.Calls.{Answer, accepted, refusedWith, Outcome, result, Call, Accepted}
-use Rattle.meaning.specs.Due.{reporting, renumbering}
+use Rattle.meaning.specs.Violations.{graph, violations}
+use Rattle.meaning.specs.Report.{reportItems}
+use Rattle.meaning.specs.Calls.{Answer, accepted, refusedWith}
+use Rattle.refusals.specs.Numbers.{Keeps, Number}
 
 -- Demand 1.
 
--- the call got xs in full, in its first places, and the others are as they were
+-- xs is given in full: its length is answered, it stands in the first places, and the others are as they were
 pub record Given (xs before after : List ℕ) (a : Answer) : Type 0 where
   pub answer : a ≡ accepted (length xs)
   pub first : take (length xs) after ≡ xs
   pub others : drop (length xs) after ≡ drop (length xs) before
 
--- the call was refused with k, and every place is as it was
+-- the call is refused with k, and every place is as it was
 pub record Refused (k : ℕ) (before after : List ℕ) (a : Answer) : Type 0 where
   pub answer : a ≡ refusedWith k
   pub all : after ≡ before
 
--- the one number for bytes that are not accepted: that of the first fault in them, and 8 where there is none
-abbrev pub numberOf : Read Bundle → ℕ
-numberOf (ok b n) = 8
-numberOf (refused k) = k
+-- a call whose result is xs gets it in full where the lent places hold it, and else is refused with 9
+pub record Gets (xs before after : List ℕ) (a : Answer) : Type 0 where
+  pub full : length xs ≤ length before → Given xs before after a
+  pub narrow : length before < length xs → Refused 9 before after a
 
--- Every bundle of bytes that keeps the layout, with references that never circle, is accepted, and a call whose lent places hold
--- the result gets it in full. Every other call is refused with the one number, and changes nothing.
--- `due` is what is due to the call, and f the result for an accepted bundle.
-pub record Demand1 (due : List ℕ → Outcome) (f : Bundle → List ℕ) : Type 0 where
-  pub given : (s before after : List ℕ) (a : Answer) → Call (due s) before after a
-      → (b : Accepted s) → length (f (b .tree)) ≤ length before → Given (f (b .tree)) before after a
-  pub narrow : (s before after : List ℕ) (a : Answer) → Call (due s) before after a
-      → (b : Accepted s) → length before < length (f (b .tree)) → Refused 9 before after a
-  pub others : (s before after : List ℕ) (a : Answer) → Call (due s) before after a
-      → Bytes s → (Accepted s → ⊥) → Refused (numberOf (readBundle s)) before after a
+-- The bytes are those of a bundle to be accepted, or of none: there is no third case. They are those of one bundle at most. There is one
+-- number at most for which they are refused, and for a bundle to be accepted there is none.
+pub record Cases (s : List ℕ) : Type 0 where
+  pub either : ((b : Bundle) × Keeps s b) ⊎ ((b : Bundle) → Keeps s b → ⊥)
+  pub one-bundle : (b c : Bundle) → Keeps s b → Keeps s c → b ≡ c
+  pub one-number : (j k : ℕ) → Number s j → Number s k → j ≡ k
+  pub no-number : (b : Bundle) → Keeps s b → (k : ℕ) → Number s k → ⊥
 
--- Demand 2.
+-- Every bundle that keeps the layout, with references that never circle, is accepted and its call gets the result; every other call is
+-- refused with the one number (`Number`, the refusals' Numbers.antt). No call is refused with another number than 1 to 9.
+-- `Due b xs`: xs is the result for the bundle b.
+pub record Demand1 (Due : Bundle → List ℕ → Type 0) (s before after : List ℕ) (a : Answer) : Type 0 where
+  pub every : (b : Bundle) → Keeps s b → (xs : List ℕ) × Due b xs × Gets xs before after a
+  pub other : ((b : Bundle) → Keeps s b → ⊥) → (k : ℕ) × Number s k × Refused k before after a
+  pub cases : Cases s
+  pub numbered : (k : ℕ) → a ≡ refusedWith k → (1 ≤ k) × (k ≤ 9)
 
--- the names are those on a path, no path has fewer edges, and of those with as many none comes before it by edge numbers
-pub record First (b : Bundle) (from to : ℕ) (names : List ℕ) : Type 0 where
+-- Demand 2: the result of each call.
+
+-- nothing, where only acceptance is asked for
+abbrev pub Nothing : Bundle → List ℕ → Type 0
+Nothing b xs = xs ≡ []
+
+-- the report: the violations that the checks find, in their order
+abbrev pub ReportOf : Bundle → List ℕ → Type 0
+ReportOf b xs = xs ≡ bytes (reportItems (violations b))
+
+-- the numbering of the names that stand in a bundle's records: the map from old names to new, 0 to 0 included
+abbrev pub numberingOf : Bundle → ℕ → ℕ
+numberingOf b = numbering (names (bundleItems b))
+
+-- the bundle with each name in its records put through its numbering, and all else as it was
+abbrev pub RenumberedOf : Bundle → List ℕ → Type 0
+RenumberedOf b xs = xs ≡ bytes (mapNames (numberingOf b) (bundleItems b))
+
+-- the names on a path of fewest edges, the first of those by edge numbers
+pub record FirstPath (b : Bundle) (from to : ℕ) (xs : List ℕ) : Type 0 where
   pub path : List ℕ
   pub leads : IsWalk (graph b) from path to
-  pub on : names ≡ namesOn (graph b) from path
+  pub on : xs ≡ namesOn (graph b) from path
   pub fewest : (other : List ℕ) → IsWalk (graph b) from other to → length path ≤ length other
   pub first : (other : List ℕ) → IsWalk (graph b) from other to → length other ≡ length path → (path ≡ other) ⊎ Earlier path other
 
--- On every accepted bundle the report has the violations that the checks find, in their order. A chain is none exactly when no path
--- exists, else the names on a path of fewest edges, the first of those by edge numbers.
-pub record Demand2 : Type 0 where
-  pub report : (s : List ℕ) (b : Accepted s) → reporting s ≡ result (reportBytes (violations (b .tree)))
-  pub no-chain : (b : Bundle) (from to : ℕ) → (findLayoutDependencyChain b from to ≡ none) ↔ (Reaches (graph b) from to → ⊥)
-  pub chain : (b : Bundle) (from to : ℕ) (names : List ℕ) → findLayoutDependencyChain b from to ≡ some names → First b from to names
+-- the chain: nothing where no path exists, and else the names on the first path
+abbrev pub ChainOf : ℕ → ℕ → Bundle → List ℕ → Type 0
+ChainOf from to b xs = ((Reaches (graph b) from to → ⊥) × (xs ≡ [])) ⊎ FirstPath b from to xs
+
+-- there is one chain
+pub record OneChain : Type 0 where
+  pub one : (from to : ℕ) (b : Bundle) (xs ys : List ℕ) → ChainOf from to b xs → ChainOf from to b ys → xs ≡ ys
 
 -- Demand 3.
 
--- a call to which o is due was accepted, whatever its places held before, and gave xs: its length, and the first places
-pub record Gave (o : Outcome) (xs : List ℕ) : Type 0 where
-  pub before : List ℕ
-  pub after : List ℕ
-  pub call : Call o before after (accepted (length xs))
-  pub first : take (length xs) after ≡ xs
+-- two bundles are alike: some exchange of all names that sends 0 to 0 turns c into d, whose bytes are c's with each name in its records
+-- put through the exchange, and all else as it was
+pub record AlikeBundles (c d : Bundle) : Type 0 where
+  pub by : Exchange
+  pub zero-stays : by .to 0 ≡ 0
+  pub turns : bytes (mapNames (by .to) (bundleItems c)) ≡ bundleBytes d
 
--- the numbering of a bundle's bytes: the map from old names to new, 0 to 0 included
-abbrev pub numberingOf : List ℕ → ℕ → ℕ
-numberingOf s = numbering (names (items body s))
+-- Two bundles are renumbered, the one into the places u and the other into v: both results are equal, length and bytes, exactly when
+-- the bundles are alike.
+pub record Demand3Alike (s t : List ℕ) (u u′ : List ℕ) (a : Answer) (v v′ : List ℕ) (b : Answer) : Type 0 where
+  pub one : Demand1 RenumberedOf s u u′ a
+  pub another : Demand1 RenumberedOf t v v′ b
+  pub equal : (c d : Bundle) → Keeps s c → Keeps t d → (m n : ℕ) → a ≡ accepted m → b ≡ accepted n → ((m ≡ n) × (take m u′ ≡ take n v′)) ↔ AlikeBundles c d
 
--- the report of an accepted bundle, as bytes and names
-abbrev pub reportOf : {s : List ℕ} → Accepted s → List Item
-reportOf b = reportItems (violations (b .tree))
-
--- For all accepted bundles: two renumbered ones are equal, length and bytes, exactly when the bundles are alike, that is when some
--- exchange of all names that sends 0 to 0 turns the one's bytes into the other's. The renumbered bundle is accepted too. Its report
--- is the original's report with each name put through the numbering, and all else as it was.
-pub record Demand3 : Type 0 where
-  pub alike : {s t u v : List ℕ} → Bytes s → Bytes t → Accepted s → Accepted t → Gave (renumbering s) u → Gave (renumbering t) v
-      → (u ≡ v) ↔ Alike (mapBytes body) s t
-  pub accepted-too : {s u : List ℕ} → Bytes s → Accepted s → Gave (renumbering s) u → Accepted u
-  pub original : {s r : List ℕ} (b : Accepted s) → Gave (reporting s) r → r ≡ bytes (reportOf b)
-  pub report : {s u r : List ℕ} → Bytes s → (b : Accepted s) → Gave (renumbering s) u → Gave (reporting u) r → r ≡ bytes (mapNames (numberingOf s) (reportOf b))
+-- A bundle is renumbered into the places u, and the report of those n bytes goes into v: the renumbered bundle is accepted too, and its
+-- report is the original's with each name put through the numbering, and all else as it was. A refused bundle has no such report.
+pub record Demand3Report (s u u′ : List ℕ) (a : Answer) (v v′ : List ℕ) (b : Answer) : Type 0 where
+  pub renumbered : Demand1 RenumberedOf s u u′ a
+  pub keeps-too : (n : ℕ) → a ≡ accepted n → (c : Bundle) × Keeps (take n u′) c
+  pub report : (c : Bundle) → Keeps s c → (n : ℕ) → a ≡ accepted n → Gets (bytes (mapNames (numberingOf c) (reportItems (violations c)))) v v′ b
+  pub none : (k : ℕ) → a ≡ refusedWith k → Refused k v v′ b

@@ -1,10 +1,86 @@
 -- A call's answer, in C's convention.
-use Prim.Native.Nat.{ℕ}
-use mathlib.Core.Path.{_≡_, ap, _∙_}
-use mathlib.Core.List.{List}
-use Rattle.meaning.specs.Calls.{Answer, Outcome, Call}
-use Rattle.layout_c.specs.Convention.{codeOf, writtenAfter, CallInC}
+use Prim.Native.Nat.{ℕ, _≤_}
+use native.Mathlib.Omega.{arith}
+use mathlib.Core.Logic.{_↔_, _⊎_, inl, inr}
+use mathlib.Core.Path.{_≡_, refl, ap, _∙_}
+use mathlib.Core.List.{List, []}
+use lib.ListN.{length}
+use Rattle.names.specs.Records.{renumberBytes}
+use Rattle.meaning.specs.Kinds.{body}
+use Rattle.meaning.specs.Tree.{Bundle}
+use Rattle.meaning.specs.Encoding.{Bytes, bundleBytes}
+use Rattle.meaning.specs.Violations.{findLayoutDependencyChain}
+use Rattle.meaning.specs.Report.{report}
+use Rattle.meaning.specs.Calls.{Answer, accepted, refusedWith, result, answerOf, Call, onBundle, acceptance}
+use Rattle.meaning.specs.Due.{reporting, renumbering, chainNames, chaining}
+use Rattle.refusals.specs.Numbers.{Keeps}
+use Rattle.refusals.proofs.Unique.{one-to-eight}
+use Rattle.refusals.proofs.Laws.{one-number}
+use Rattle.demands.specs.Demands.{Nothing, Demand1}
+use Rattle.demands.proofs.Answering.{refused-number, accept-demand}
+use Rattle.layout_c.specs.Convention.{codeOf, writtenAfter, CallInC, AcceptInC}
 
-pub in-c : {o : Outcome} {before after : List ℕ} {a : Answer} {written written′ r : ℕ} → Call o before after a → written′ ≡ writtenAfter a written → r ≡ codeOf a
-    → CallInC o before after written written′ r
-in-c {written = written} c l e = record { code = e ∙ ap codeOf (c .answer); length-out = l ∙ ap (λ a. writtenAfter a written) (c .answer); places = c .places }
+-- the number of an answer whose refusals are 1 to 9
+module _ {r : ℕ} where
+  zero-code : (a : Answer) → r ≡ codeOf a → ((k : ℕ) → a ≡ refusedWith k → (1 ≤ k) × (k ≤ 9)) → (r ≡ 0) ↔ ((n : ℕ) × (a ≡ accepted n))
+  unfolding codeOf
+  zero-code (accepted n) e h = (λ z. (n, refl), λ z. e)
+  zero-code (refusedWith k) e h =
+      let p = h k refl in
+      (λ z. absurd (omega (arith, e, z, p .0)), λ z. let y = z .1 in let w : _≡_ {A = ℕ} 0 1 = cc in absurd (omega arith))
+
+  known-code : (a : Answer) → r ≡ codeOf a → ((k : ℕ) → a ≡ refusedWith k → (1 ≤ k) × (k ≤ 9)) → r ≤ 9
+  unfolding codeOf
+  known-code (accepted n) e h = omega (arith, e)
+  known-code (refusedWith k) e h = omega (arith, e, h k refl .1)
+
+in-c : (f : Bundle → List ℕ) (s : List ℕ) {before after : List ℕ} {a : Answer} {written written′ r : ℕ} → Call (onBundle (λ b. result (f b)) s) before after a
+    → written′ ≡ writtenAfter a written → r ≡ codeOf a → CallInC (onBundle (λ b. result (f b)) s) before after written written′ r
+in-c f s {before = before} {written = written} c l e =
+    let o = onBundle (λ b. result (f b)) s in
+    let code = e ∙ ap codeOf (c .answer) in
+    record {
+      code = code;
+      length-out = l ∙ ap (λ a. writtenAfter a written) (c .answer);
+      places = c .places;
+      zero = zero-code (answerOf o (length before)) code (refused-number f s (length before));
+      known = known-code (answerOf o (length before)) code (refused-number f s (length before));
+    }
+
+pub report-in-c : (s : List ℕ) {before after : List ℕ} {a : Answer} {written written′ r : ℕ} → Call (reporting s) before after a
+    → written′ ≡ writtenAfter a written → r ≡ codeOf a → CallInC (reporting s) before after written written′ r
+unfolding reporting
+report-in-c = in-c report
+
+pub renumber-in-c : (s : List ℕ) {before after : List ℕ} {a : Answer} {written written′ r : ℕ} → Call (renumbering s) before after a
+    → written′ ≡ writtenAfter a written → r ≡ codeOf a → CallInC (renumbering s) before after written written′ r
+unfolding renumbering
+renumber-in-c = in-c (λ b. renumberBytes body (bundleBytes b))
+
+pub chain-in-c : (from to : ℕ) (s : List ℕ) {before after : List ℕ} {a : Answer} {written written′ r : ℕ} → Call (chaining from to s) before after a
+    → written′ ≡ writtenAfter a written → r ≡ codeOf a → CallInC (chaining from to s) before after written written′ r
+unfolding chaining
+chain-in-c from to = in-c (λ b. chainNames (findLayoutDependencyChain b from to))
+
+pub accept-in-c : (s : List ℕ) → Bytes s → (r : ℕ) → r ≡ codeOf (answerOf (acceptance s) 0) → AcceptInC s r
+unfolding codeOf
+accept-in-c s bytes r e = go (d .cases .either)
+  where
+    d : Demand1 Nothing s [] [] (answerOf (acceptance s) 0)
+    d = accept-demand s (answerOf (acceptance s) 0) bytes refl
+
+    go : ((b : Bundle) × Keeps s b) ⊎ ((b : Bundle) → Keeps s b → ⊥) → AcceptInC s r
+    go (inl k) =
+        let g = d .every (k .0) (k .1) in
+        let given = g .2 .full (omega (arith, ap length (g .1))) in
+        let nil : r ≡ 0 = e ∙ ap codeOf (given .answer) in
+        record { code = e; zero = (λ z. k, λ z. nil); known = omega (arith, nil) }
+    go (inr none) =
+        let g = d .other none in
+        let same : r ≡ g .0 = e ∙ ap codeOf (g .2 .answer) in
+        let one = d .numbered (g .0) (g .2 .answer) .0 in
+        record {
+          code = e;
+          zero = (λ z. absurd (omega (arith, same, z, one)), λ k. absurd (none (k .0) (k .1)));
+          known = omega (arith, same, one-number s bytes (g .0) (g .1), one-to-eight s .1);
+        }

@@ -2,10 +2,9 @@
 // to `written`, which a refusal leaves as it was.
 use bundle::Answer;
 ghost use mathlib.Core.Path.{_≡_};
-ghost use Rattle.meaning.specs.Calls.{answerOf, acceptance};
 ghost use Rattle.meaning.specs.Due.{reporting, renumbering, chaining};
 ghost use Rattle.bundle.specs.Opened.{answerMeant};
-ghost use Rattle.layout_c.specs.Convention.{codeOf, writtenAfter, CallInC};
+ghost use Rattle.layout_c.specs.Convention.{codeOf, writtenAfter, CallInC, AcceptInC};
 
 // The number for an answer.
 fn code(answer: Answer) -> u8
@@ -30,7 +29,7 @@ fn length_out(answer: Answer, written: usize) -> usize
 // Whether the bytes are accepted.
 #[no_mangle]
 pub extern "C" fn layout_accept(bundle: &[u8]) -> u8
-    ensures { λ r. ⌜ r ≡ codeOf (answerOf (acceptance (now (bundle .entry))) 0) ⌝ }
+    ensures { λ r. ⌜ AcceptInC (now (bundle .entry)) r ⌝ }
 {
     code(acceptance::accept(bundle))
 }

@@ -93,7 +93,7 @@ module _ (g : Graph) where
   reaches-walk here = ([], refl)
   reaches-walk (along e l p) = let w = reaches-walk p in (e ∷ w .0, (l, refl, w .1))
 
-  walk-reaches : (a b : ℕ) (es : List ℕ) → IsWalk g a es b → Reaches g a b
+  pub walk-reaches : (a b : ℕ) (es : List ℕ) → IsWalk g a es b → Reaches g a b
   walk-reaches a b [] w = subst (λ (x : ℕ). Reaches g a x) w here
   walk-reaches a b (e ∷ es) w = subst (λ (x : ℕ). Reaches g x b) (w .1) (along e (w .0) (walk-reaches (g .to e) b es (w .2)))
 

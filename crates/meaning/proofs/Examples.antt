@@ -1,58 +1,16 @@
 -- Document 01's marked examples that speak of trees, and its example report, each by computation.
-use Prim.Native.Nat.{ℕ}
 use mathlib.Core.Path.{_≡_, refl}
-use mathlib.Core.List.{List, [], _∷_}
+use mathlib.Core.List.{[], _∷_}
 use mathlib.Core.Bool.{true, false}
 use mathlib.Core.Option.{none, some, orElse}
 use Rattle.meaning.specs.Chain.{chainOf, firstWalk, walkOf, firstOf, onlyIf}
-use Rattle.meaning.specs.Tree.{Expr, literal, fieldRef, Attributes, Ty, primitive, typeRef, enum, array, member, Members, more, Edge, Bundle}
+use Rattle.meaning.specs.Tree.{typeRef}
+use Rattle.meaning.specs.Small.{edge, edges, one, u8, i8, three, field, tagged, nested, jagged}
 use Rattle.meaning.specs.Lookup.{findType}
 use Rattle.meaning.specs.Circle.{leadsTo, settled, circles}
 use Rattle.meaning.specs.Sizes.{isEnumWithConstantSizeVariants, within, answer, namedSizeDepends, inlineSizeDepends, containsJaggedArray}
 use Rattle.meaning.specs.Violations.{findLayoutDependencyChain, checkJaggedArrayConstraints, checkArrayElementTypeSize, validateArraySizeConstraints, violations}
 use Rattle.meaning.specs.Report.{report}
-
-abbrev pub plain : Attributes
-plain = record { packed = 0; aligned = 0 }
-
-abbrev pub edge : ℕ → ℕ → Edge
-edge from to = record { from = from; to = to; kind = 0 }
-
--- a bundle of edges alone
-abbrev pub edges : List Edge → Bundle
-edges es = record { current = 0; definitions = []; edges = es }
-
--- a bundle of definition 1 alone
-abbrev pub one : Ty → Bundle
-one t = record { current = 0; definitions = record { name = 1; type = t } ∷ []; edges = [] }
-
--- U8, I8; the literal 3; a reference to the field 2
-abbrev pub u8 : Ty
-u8 = primitive 0x30
-
-abbrev pub i8 : Ty
-i8 = primitive 0x34
-
-abbrev pub three : Expr
-three = literal 0x04 3
-
-abbrev pub field : Expr
-field = fieldRef (2 ∷ [])
-
--- an enum with such a tag and variants of such types
-abbrev pub variants : List Ty → Members
-variants [] = Members.none
-variants (t ∷ ts) = more (member 7 0 t) (variants ts)
-
-abbrev pub tagged : Expr → List Ty → Ty
-tagged tag ts = enum plain tag (variants ts)
-
--- an array of three arrays whose size is a field
-abbrev pub nested : Ty
-nested = array plain 0 three (array plain 0 field u8)
-
-abbrev pub jagged : Ty → Ty
-jagged element = array plain 1 three element
 
 -- chain 5 to 5 without edges: 5
 pub chain-self : findLayoutDependencyChain (edges []) 5 5 ≡ some (5 ∷ [])

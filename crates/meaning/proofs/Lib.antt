@@ -21,7 +21,6 @@ pub mod Walks
 pub mod Pigeonhole
 pub mod ChainLaws
 pub mod Examples
-pub mod RenumberingExamples
 pub mod Lists
 pub mod Lookup
 pub mod Circle

@@ -67,7 +67,7 @@ module _ {A B : Type 0} (s : List ℕ) (cons : A → B → B) (nil : B) (r : Rea
       (next n (g .value) (h .value) (law at (g .middle) (g .value) (g .first)) (many-within n (g .middle) (h .middle) (h .value) (h .first)))
 
 -- of a list: each value, and how many there are
-list-within : {A : Type 0} (s : List ℕ) (r : Reader A) (P : A → Type 0) → ((at n : ℕ) (a : A) → r s at ≡ ok a n → P a)
+pub list-within : {A : Type 0} (s : List ℕ) (r : Reader A) (P : A → Type 0) → ((at n : ℕ) (a : A) → r s at ≡ ok a n → P a)
     → (n at m : ℕ) (l : List A) → many _∷_ [] r n s at ≡ ok l m → Each P l × (length l ≡ n)
 list-within s r P law =
     many-within s _∷_ [] r P (λ n l. Each P l × (length l ≡ n)) law (tt, refl) (λ n a b p q. ((p, q .0), ap suc (q .1)))
@@ -257,7 +257,7 @@ module _ (s : List ℕ) (bytes : Bytes s) where
       form k m b Unknown p law q = no q
 
   -- a definition
-  definition-within : (at n : ℕ) (d : Definition) → readDefinition s at ≡ ok d n → DefinitionOk d
+  pub definition-within : (at n : ℕ) (d : Definition) → readDefinition s at ≡ ok d n → DefinitionOk d
   unfolding readDefinition
   definition-within at n d e =
       let o = went (opening 0x61 s at) _ s d n e in
@@ -267,7 +267,7 @@ module _ (s : List ℕ) (bytes : Bytes s) where
       settle (λ (d : Definition) n. DefinitionOk d) (g .then) (little-fits s bytes 2 b, p .0, p .1)
 
   -- an edge
-  edge-within : (at n : ℕ) (x : Edge) → readEdge s at ≡ ok x n → EdgeOk x
+  pub edge-within : (at n : ℕ) (x : Edge) → readEdge s at ≡ ok x n → EdgeOk x
   unfolding readEdge
   edge-within at n x e =
       let o = went (opening 0x62 s at) _ s x n e in
@@ -282,7 +282,7 @@ module _ (s : List ℕ) (bytes : Bytes s) where
           settle (λ (x : Edge) n. EdgeOk x) (c .then) (little-fits s bytes 2 b, little-fits s bytes 2 (b + 2), leb-true (getD s (b + 2 + 2) 0) 3 (t .0))
 
   -- the header
-  header-within : (at n : ℕ) (h : Header) → readHeader s at ≡ ok h n → (h .definitions ≤ definitionLimit) × (h .edges ≤ edgeLimit) × Fits 2 (h .current)
+  pub header-within : (at n : ℕ) (h : Header) → readHeader s at ≡ ok h n → (h .definitions ≤ definitionLimit) × (h .edges ≤ edgeLimit) × Fits 2 (h .current)
   unfolding readHeader
   header-within at n h e =
       let o = went (opening 0x60 s at) _ s h n e in

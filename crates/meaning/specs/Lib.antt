@@ -19,3 +19,4 @@ pub mod Violations
 pub mod Report
 pub mod Renumbering
 pub mod Due
+pub mod Small

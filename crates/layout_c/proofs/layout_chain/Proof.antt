@@ -1,7 +1,7 @@
 use borrow.Author.Needs.{needs}
 use Rattle.layout_c.proofs.layout_chain.Statement.{statement}
 use Rattle.layout_c.proofs.layout_chain.Tie as tie
-use Rattle.layout_c.proofs.CallLaws.{in-c}
+use Rattle.layout_c.proofs.CallLaws.{chain-in-c}
 
 find-layout-dependency-chain-requires : tie.Need-find-layout-dependency-chain-requires
 find-layout-dependency-chain-requires c κs = search needs
@@ -16,7 +16,7 @@ same-length : tie.Need-same-length
 same-length c = search needs
 
 returns : tie.Need-returns
-returns c = in-c (c .before .before .before .before .before .find-layout-dependency-chain .ensures) (c .before .length-out .ensures) (c .code .ensures)
+returns c = chain-in-c _ _ _ (c .before .before .before .before .before .find-layout-dependency-chain .ensures) (c .before .length-out .ensures) (c .code .ensures)
 
 pub layout-chain-spec : {M : Type 1} → statement M
 layout-chain-spec =

@@ -1,7 +1,7 @@
 use borrow.Author.Needs.{needs}
 use Rattle.layout_c.proofs.layout_renumber.Statement.{statement}
 use Rattle.layout_c.proofs.layout_renumber.Tie as tie
-use Rattle.layout_c.proofs.CallLaws.{in-c}
+use Rattle.layout_c.proofs.CallLaws.{renumber-in-c}
 
 renumber-requires : tie.Need-renumber-requires
 renumber-requires c κs = search needs
@@ -16,7 +16,7 @@ same-length : tie.Need-same-length
 same-length c = search needs
 
 returns : tie.Need-returns
-returns c = in-c (c .before .before .before .before .before .renumber .ensures) (c .before .length-out .ensures) (c .code .ensures)
+returns c = renumber-in-c _ (c .before .before .before .before .before .renumber .ensures) (c .before .length-out .ensures) (c .code .ensures)
 
 pub layout-renumber-spec : {M : Type 1} → statement M
 layout-renumber-spec =

@@ -1,0 +1,35 @@
+-- The statements hold, by the laws of the meaning.
+use Rattle.meaning.proofs.Equations as equations
+use Rattle.meaning.proofs.RenumberingLaws.{exchanged-accepted, exchanged-report}
+use Rattle.laws.specs.Equations.{SizeEquations, JaggedEquations}
+use Rattle.laws.specs.Exchanges.{Exchanges}
+
+pub sized : SizeEquations
+sized = record {
+  inline-typeRef = equations.inline-typeRef;
+  inline-struct = equations.inline-struct;
+  inline-union = equations.inline-union;
+  inline-enum = equations.inline-enum;
+  inline-array = equations.inline-array;
+  named-typeRef = equations.named-typeRef;
+  named-struct = equations.named-struct;
+  named-union = equations.named-union;
+  named-enum = equations.named-enum;
+  named-array = equations.named-array;
+  primitives = equations.size-primitive;
+  size-unions = equations.size-sizeUnion;
+}
+
+pub nested : JaggedEquations
+nested = record {
+  primitives = equations.jagged-primitive;
+  typeRefs = equations.jagged-typeRef;
+  structs = equations.jagged-struct;
+  unions = equations.jagged-union;
+  enums = equations.jagged-enum;
+  arrays = equations.jagged-array;
+  size-unions = equations.jagged-sizeUnion;
+}
+
+pub exchanged : Exchanges
+exchanged = record { taken = λ s p a f. exchanged-accepted p a f; reported = λ s p a f. exchanged-report p a f }

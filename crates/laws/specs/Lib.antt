@@ -1,0 +1,3 @@
+pub mod Equations
+pub mod Exchanges
+pub mod Examples

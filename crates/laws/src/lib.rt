@@ -1,0 +1,24 @@
+// Laws of the meaning that no code needs, each the contract of a function, so that one that is not proved fails this crate.
+ghost use Rattle.laws.specs.Equations.{SizeEquations, JaggedEquations};
+ghost use Rattle.laws.specs.Exchanges.{Exchanges};
+ghost use Rattle.laws.specs.Examples.{Examples};
+
+// The size tests satisfy the Rust's own equations.
+pub fn size_equations()
+    ensures { λ r. ⌜ SizeEquations ⌝ }
+{}
+
+// So does the jagged test.
+pub fn jagged_equations()
+    ensures { λ r. ⌜ JaggedEquations ⌝ }
+{}
+
+// An exchange of names changes nothing but the names.
+pub fn exchanges()
+    ensures { λ r. ⌜ Exchanges ⌝ }
+{}
+
+// Examples of reading, writing and renumbering hold.
+pub fn examples()
+    ensures { λ r. ⌜ Examples ⌝ }
+{}

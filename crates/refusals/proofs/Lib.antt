@@ -1,0 +1,11 @@
+pub mod Standing
+pub mod Unique
+pub mod Circles
+pub mod Faults
+pub mod Whole
+pub mod Counts
+pub mod Behind
+pub mod Agree
+pub mod Front
+pub mod Encoded
+pub mod Laws
