@@ -45,7 +45,7 @@ last-shift k z false nothing = refl
 last-shift k z t (some i) = omega arith
 
 -- some element passes exactly where there is a last one that does
-pub any-last : {A : Type 0} (p : A → Bool) (xs : List A) → any p xs ≡ ltb 0 (lastShown 0 0 (lastIndex p xs))
+any-last : {A : Type 0} (p : A → Bool) (xs : List A) → any p xs ≡ ltb 0 (lastShown 0 0 (lastIndex p xs))
 any-last p [] = refl
 any-last p (x ∷ xs) = go (p x) (any p xs) (lastIndex p xs) (any-last p xs)
   where

@@ -1,8 +1,11 @@
 -- The statements hold, by the laws of the meaning.
+use mathlib.Core.Path.{sym}
 use Rattle.meaning.proofs.Equations as equations
+use Rattle.meaning.proofs.Mapped.{bundle-names, bundle-mapped}
+use Rattle.meaning.proofs.Equivariance.{violations-exchange, reportItems-map}
 use Rattle.meaning.proofs.RenumberingLaws.{exchanged-accepted, exchanged-report}
 use Rattle.laws.specs.Equations.{SizeEquations, JaggedEquations}
-use Rattle.laws.specs.Exchanges.{Exchanges}
+use Rattle.laws.specs.Exchanges.{Named, Exchanges}
 
 pub sized : SizeEquations
 sized = record {
@@ -31,5 +34,12 @@ nested = record {
   size-unions = equations.jagged-sizeUnion;
 }
 
+pub in-the-tree : Named
+in-the-tree = record {
+  standing = bundle-names;
+  mapped = λ f b. sym (bundle-mapped f b);
+  reported = λ f vs. sym (reportItems-map f vs);
+}
+
 pub exchanged : Exchanges
-exchanged = record { taken = λ s p a f. exchanged-accepted p a f; reported = λ s p a f. exchanged-report p a f }
+exchanged = record { found = λ b ok f. violations-exchange f b ok; taken = λ s p a f. exchanged-accepted p a f; reported = λ s p a f. exchanged-report p a f }

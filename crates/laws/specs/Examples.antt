@@ -16,7 +16,7 @@ use Rattle.meaning.specs.Circle.{circles}
 use Rattle.meaning.specs.Small.{one, sample, sampleTree}
 
 -- an expression of n complements over a literal 3 of type U8
-abbrev pub tower : ℕ → List ℕ
+abbrev tower : ℕ → List ℕ
 tower n = replicate n 0x24 ++ 0x04 ∷ 3 ∷ []
 
 -- where a reading ended, or the fault

@@ -1,6 +1,6 @@
 // Laws of the meaning that no code needs, each the contract of a function, so that one that is not proved fails this crate.
 ghost use Rattle.laws.specs.Equations.{SizeEquations, JaggedEquations};
-ghost use Rattle.laws.specs.Exchanges.{Exchanges};
+ghost use Rattle.laws.specs.Exchanges.{Named, Exchanges};
 ghost use Rattle.laws.specs.Examples.{Examples};
 
 // The size tests satisfy the Rust's own equations.
@@ -11,6 +11,11 @@ pub fn size_equations()
 // So does the jagged test.
 pub fn jagged_equations()
     ensures { λ r. ⌜ JaggedEquations ⌝ }
+{}
+
+// The names in the bytes of a bundle and of a report are those of the tree and of the violations.
+pub fn names_in_bytes()
+    ensures { λ r. ⌜ Named ⌝ }
 {}
 
 // An exchange of names changes nothing but the names.

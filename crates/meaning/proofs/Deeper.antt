@@ -16,7 +16,7 @@ use Rattle.meaning.specs.ReadType.{memberHead, readMember, readMembers, 
 use Rattle.meaning.proofs.Readings.{went}
 
 -- what r reads, q reads alike
-abbrev pub Refines : {A : Type 0} → Reader A → Reader A → Type 0
+abbrev Refines : {A : Type 0} → Reader A → Reader A → Type 0
 Refines {A} r q = (s : List ℕ) (at : ℕ) (a : A) (m : ℕ) → r s at ≡ ok a m → q s at ≡ ok a m
 
 same : {A : Type 0} (r : Reader A) → Refines r r
@@ -52,7 +52,7 @@ module _ (r q : Reader Expr) (h : Refines r q) where
   after-refines k (OfRecord before names behind) = same _
   after-refines k Unknown = same _
 
-pub expr-deeper : (d e : ℕ) → d ≤ e → Refines (readExpr d) (readExpr e)
+expr-deeper : (d e : ℕ) → d ≤ e → Refines (readExpr d) (readExpr e)
 unfolding readExpr
 expr-deeper zero e l = λ s at a m p. let z : _≡_ {A = ℕ} 0 1 = cc in absurd (omega arith)
 expr-deeper (suc d) zero l = absurd (not-suc-le-zero l)

@@ -33,7 +33,7 @@ use Rattle.meaning.proofs.Injective.{Injective, circles-injective, viol
 -- 1. The names in a violation occur in the bundle: a name that did not could be swapped with a new one, and nothing would change.
 
 -- the names that stand in violations
-abbrev pub allNames : List Violation → List ℕ
+abbrev allNames : List Violation → List ℕ
 allNames vs = flatMap violationNames vs
 
 violationNames-map : (f : ℕ → ℕ) (v : Violation) → violationNames (mapViolation f v) ≡ map f (violationNames v)

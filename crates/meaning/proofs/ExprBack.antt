@@ -92,7 +92,7 @@ module _ (s : List ℕ) where
       let t = names-back xs (at + 2) rest l (f .1) (rw (length-name x) at (follows s at (nameBytes x) (namesBytes xs ++ rest) q)) in
       (rw (n .0, t .0), omega (arith, t .1))
 
-pub length-namesBytes : (names : List ℕ) → length (namesBytes names) ≡ 2 * length names
+length-namesBytes : (names : List ℕ) → length (namesBytes names) ≡ 2 * length names
 unfolding namesBytes
 length-namesBytes [] = refl
 length-namesBytes (x ∷ xs) = length-append (nameBytes x) (namesBytes xs) ∙ rw (length-name x) (omega (arith, length-namesBytes xs))

@@ -71,7 +71,7 @@ names-layout [] = refl
 names-layout (n ∷ ns) = ap (true ∷_) (names-layout ns)
 
 -- an expression
-pub expr-scans : (e : Expr) → ExprOk e → Scans (exprItems e)
+expr-scans : (e : Expr) → ExprOk e → Scans (exprItems e)
 unfolding exprItems lookup
 expr-scans (literal k v) o =
     let w = getD widths (k - 1) 0 in

@@ -12,7 +12,7 @@ use Rattle.names.specs.Names.{place}
 use Rattle.meaning.specs.Tree.{Ty, Definition, Bundle}
 use Rattle.meaning.specs.Lookup.{findType}
 
-pub eqb-sym : (m n : ℕ) → eqb m n ≡ eqb n m
+eqb-sym : (m n : ℕ) → eqb m n ≡ eqb n m
 eqb-sym m n = go (eqb n m) refl
   where
     go : (t : Bool) → eqb n m ≡ t → eqb m n ≡ t

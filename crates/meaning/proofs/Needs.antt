@@ -31,7 +31,7 @@ constant-none (binary k l r) c = go (isConstant l) refl c (constant-none l) (con
     go false e c left right = absurd (false≢true c)
 constant-none (unary k e) c = constant-none e c
 
-pub some-not-constant : (e : Expr) {path : List ℕ} → List·Memᴰ path (collectFieldReferencesRecursive e) → not (isConstant e) ≡ true
+some-not-constant : (e : Expr) {path : List ℕ} → List·Memᴰ path (collectFieldReferencesRecursive e) → not (isConstant e) ≡ true
 some-not-constant e {path} m = go (isConstant e) refl
   where
     go : (t : Bool) → isConstant e ≡ t → not t ≡ true

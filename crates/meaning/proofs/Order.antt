@@ -40,7 +40,7 @@ earlier-last : (u : List ℕ) (a b : ℕ) → a < b → Earlier (u ++ a ∷ []) 
 earlier-last [] a b p = inl p
 earlier-last (x ∷ u) a b p = inr (refl, earlier-last u a b p)
 
-pub length-snoc : (u : List ℕ) (a : ℕ) → length (u ++ a ∷ []) ≡ length u + 1
+length-snoc : (u : List ℕ) (a : ℕ) → length (u ++ a ∷ []) ≡ length u + 1
 length-snoc u a = simp length-append
 
 pub before-trans : {u v w : List ℕ} → Before u v → Before v w → Before u w

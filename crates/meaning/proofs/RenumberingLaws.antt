@@ -34,7 +34,7 @@ abbrev pub numberingOf : List ℕ → ℕ → ℕ
 numberingOf s = numbering (names (items body s))
 
 -- the report of an accepted bundle, as bytes with names at known places
-abbrev pub reportOf : {s : List ℕ} → Accepted s → List Item
+abbrev reportOf : {s : List ℕ} → Accepted s → List Item
 reportOf a = reportItems (violations (a .tree))
 
 -- What is due for accepted bytes.
@@ -42,7 +42,7 @@ reportOf a = reportItems (violations (a .tree))
 due-at : (f : Bundle → Outcome) {s : List ℕ} (a : Accepted s) → onBundle f s ≡ f (a .tree)
 due-at f a = ap (onBundle f) (sym (a .encoded)) ∙ accepted-due f (a .tree) (a .within) (a .no-circle)
 
-pub reporting-due : {s : List ℕ} (a : Accepted s) → reporting s ≡ result (bytes (reportOf a))
+reporting-due : {s : List ℕ} (a : Accepted s) → reporting s ≡ result (bytes (reportOf a))
 unfolding reporting report
 reporting-due a = due-at (λ b. result (report b)) a
 

@@ -72,7 +72,7 @@ module _ (s : List ℕ) where
       (ap (ok (name, value)) (omega (arith, length-append xs ys, length-name name, length-bytesOf w value)))
 
 -- a type where a level is left is a node
-pub ty-node : (d at : ℕ) (s : List ℕ) → 0 < d → readTy d s at ≡ node (typeAfter (readExpr (d - 1)) (readTy (d - 1))) s at
+ty-node : (d at : ℕ) (s : List ℕ) → 0 < d → readTy d s at ≡ node (typeAfter (readExpr (d - 1)) (readTy (d - 1))) s at
 unfolding readTy
 ty-node zero at s h = absurd (not-suc-le-zero h)
 ty-node (suc d) at s h = let p : suc d - 1 ≡ d = omega arith in rw p

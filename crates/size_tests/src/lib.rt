@@ -444,20 +444,6 @@ pub fn type_size_depends_on_field_refs(
     named_type_test(s, places, count, kept, false, i, count)
 }
 
-// Whether a jagged array is in definition `i` or in what it leads to. `kept` has the jagged test's answers.
-pub fn definition_contains_jagged_array(
-    s: &[u8],
-    places: &[u16],
-    count: usize,
-    kept: &mut [u8; bundle::DEFINITIONS],
-    i: usize,
-) -> bool
-    requires { ⌜ Table (now s) count (now places) × (i < count) × Acyclic (now s) × Kept (now s) true (now kept) ⌝ }
-    ensures { λ r. ⌜ (r ≡ definitionContainsJagged (bundleOf (now (s .entry))) i) × Kept (now (s .entry)) true (now (kept .exit)) ⌝ }
-{
-    named_type_test(s, places, count, kept, true, i, count)
-}
-
 // Whether the size of the type that was read at `at`, written inline, depends on field references.
 pub fn type_size_depends_on_field_refs_recursive(
     s: &[u8],

@@ -111,7 +111,7 @@ module _ {d at : ℕ} {s : List ℕ} {f : Form} (o : Opened d at s f) (r : Reads
   constant-enum-not code.SizeUnion p q = rw (sizeUnion-tree o r zeroGroup p)
 
 -- a primitive ends behind its kind byte
-pub primitive-ends-at : (d at w : ℕ) (s : List ℕ) → Reads (readTy d s at) → Bytes w ≡ sizeShown (asPrimitive (typeAt d s at)) → Next (at + 1) ≡ stepOf (readTy d s at)
+primitive-ends-at : (d at w : ℕ) (s : List ℕ) → Reads (readTy d s at) → Bytes w ≡ sizeShown (asPrimitive (typeAt d s at)) → Next (at + 1) ≡ stepOf (readTy d s at)
 primitive-ends-at d at w s r e = go (formOf (getD s at 0)) refl
   where
     o : Opened d at s (formOf (getD s at 0))

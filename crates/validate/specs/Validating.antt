@@ -44,7 +44,7 @@ abbrev pub recordBytes : List Violation → List ℕ
 recordBytes vs = bytes (flatMap violationItems vs)
 
 -- the most bytes of a record, with a chain of 1,025 names
-abbrev pub recordLimit : ℕ
+abbrev recordLimit : ℕ
 recordLimit = 3091
 
 -- the violations vs are written from position p on, and q is the position behind them

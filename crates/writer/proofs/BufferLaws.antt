@@ -7,7 +7,7 @@ use mathlib.Core.Path.{_≡_, refl, sym, ap, ap₂, _∙_}
 use mathlib.Core.List.{List, [], _∷_, _++_}
 use mathlib.Core.Option.{Option, none, some}
 use lib.Dec.{T, leb, leb→le}
-use lib.ListN.{length, take, drop, length-append, length-drop, take-append-drop}
+use lib.ListN.{length, take, drop, length-append, length-drop}
 use lib.Seq.{sets, length-sets, length-take-le, take-at, drop-at}
 use borrow.Author.Tests.{le-leb}
 use Rattle.meaning.specs.Kinds.{formOf}
@@ -16,10 +16,10 @@ use Rattle.meaning.specs.Encoding.{bundleBytes}
 use Rattle.meaning.specs.Within.{BundleOk}
 use Rattle.meaning.specs.Reader.{ok}
 use Rattle.meaning.specs.ReadBundle.{readBundle}
-use Rattle.meaning.specs.Calls.{Answer, Outcome, result, answerOf, placesAfter}
+use Rattle.meaning.specs.Calls.{Outcome, result, answerOf, placesAfter}
 use Rattle.meaning.specs.Writing.{Field, most, fault, fieldItems, bodyItems, firstFault, fieldsOf, recordDue, writing, bundleRecords, Writes, nothing, record-first}
 use Rattle.meaning.proofs.WritingLaws.{bundle-writes, records-read-back}
-use Rattle.writer.specs.Places.{CallFrom, placesFrom, endOf, given, recordsAfter}
+use Rattle.writer.specs.Places.{placesFrom, endOf, given, recordsAfter}
 use Rattle.writer.proofs.RecordLaws.{sets-both, stored-from}
 use Rattle.meaning.proofs.WritingLaws.{fits}
 use Rattle.writer.proofs.KindLaws.{short, kind-short}
@@ -55,9 +55,6 @@ given-due k vs = by (fieldsOf k (formOf k)) (kind-short k)
 
 -- One call: its answer and the places after it are those that the next one goes on from.
 
-pub call-places : {at : ℕ} {o : Outcome} {l m : List ℕ} {a : Answer} → CallFrom at o l m a → (m ≡ placesFrom at o l) × (a ≡ answerOf o (length (drop at l)))
-call-places {at} {m = m} c = (sym (take-append-drop at m) ∙ ap₂ _++_ (c .kept) (c .call .places), c .call .answer)
-
 accepted-call : (at : ℕ) (o : Outcome) (l xs : List ℕ) → o ≡ result xs → at + length xs ≤ length l
     → (endOf at (answerOf o (length (drop at l))) ≡ at + length xs) × (placesFrom at o l ≡ sets l at xs)
 unfolding answerOf placesAfter
@@ -67,7 +64,7 @@ accepted-call at o l xs e h =
 
 -- All of them: the places hold the records' bytes, one behind the other, and else what they held before.
 
-pub records-stored : {rs : List (ℕ × List ℕ)} {s : List ℕ} → Writes rs s → (at : ℕ) (l : List ℕ) → at + length s ≤ length l → recordsAfter rs at l ≡ sets l at s
+records-stored : {rs : List (ℕ × List ℕ)} {s : List ℕ} → Writes rs s → (at : ℕ) (l : List ℕ) → at + length s ≤ length l → recordsAfter rs at l ≡ sets l at s
 unfolding recordsAfter
 records-stored nothing at l h = refl
 records-stored (record-first {k} {vs} {xs} {rs} {s} e w) at l h =

@@ -189,7 +189,7 @@ fn shape_of(kind: u8) -> Shaped
 }
 
 // Writes a number of `width` bytes, low byte first.
-pub fn put_number(out: &mut [u8], at: usize, width: usize, value: u64)
+fn put_number(out: &mut [u8], at: usize, width: usize, value: u64)
     requires { ⌜ at + width ≤ length (now out) ⌝ }
     ensures { λ r. ⌜ now (out .exit) ≡ sets (now (out .entry)) at (bytes (numberItems width value)) ⌝ }
 {

@@ -1,4 +1,3 @@
--- `chain::add_new` meets its contract.
 use mathlib.Core.Path.{refl}
 use Rattle.chain.specs.Queue.{kept, added}
 use Rattle.chain.proofs.Members.{missing, pushed}

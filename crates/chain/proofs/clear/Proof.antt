@@ -1,4 +1,3 @@
--- `chain::clear` meets its contract.
 use Prim.Native.Nat.{ℕ, _-_, _≤_}
 use mathlib.Core.Path.{_≡_, refl, ap, _∙_}
 use mathlib.Core.List.{List, _++_, append-nil}

@@ -1,4 +1,3 @@
--- `chain::enter` meets its contract.
 use Rattle.chain.proofs.Members.{entered-old, entered-new}
 use borrow.Author.Needs.{needs}
 use Rattle.chain.proofs.enter.Statement.{statement}

@@ -1,4 +1,3 @@
--- `chain::grow` meets its contract.
 use borrow.Author.Tests.{eq-eqb, ne-eqb}
 use borrow.Author.Needs.{needs}
 use Rattle.chain.proofs.grow.Statement.{statement}

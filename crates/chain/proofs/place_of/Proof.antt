@@ -1,4 +1,3 @@
--- `chain::place_of` meets its contract.
 use Rattle.chain.proofs.Members.{at-place, no-place}
 use native.Mathlib.Omega.{arith}
 use borrow.Author.Needs.{needs}

@@ -1,4 +1,3 @@
--- `chain::prepare` meets its contract.
 use mathlib.Core.Path.{_≡_}
 use lib.ListN.{length}
 use Rattle.chain.specs.Index.{numbered}

@@ -1,4 +1,3 @@
--- `checks::check_array_element_type_size` meets its contract.
 use borrow.Author.Needs.{needs}
 use Rattle.checks.proofs.check_array_element_type_size.Statement.{statement}
 use Rattle.checks.proofs.check_array_element_type_size.Tie as tie

@@ -1,4 +1,3 @@
--- `checks::check_field_layout_dependency` meets its contract.
 use borrow.Author.Needs.{needs}
 use Rattle.checks.proofs.check_field_layout_dependency.Statement.{statement}
 use Rattle.checks.proofs.check_field_layout_dependency.Tie as tie

@@ -1,4 +1,3 @@
--- `checks::check_forward_reference` meets its contract.
 use borrow.Author.Needs.{needs}
 use Rattle.checks.proofs.check_forward_reference.Statement.{statement}
 use Rattle.checks.proofs.check_forward_reference.Tie as tie

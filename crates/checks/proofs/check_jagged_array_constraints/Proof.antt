@@ -1,4 +1,3 @@
--- `checks::check_jagged_array_constraints` meets its contract.
 use borrow.Author.Needs.{needs}
 use Rattle.checks.proofs.check_jagged_array_constraints.Statement.{statement}
 use Rattle.checks.proofs.check_jagged_array_constraints.Tie as tie

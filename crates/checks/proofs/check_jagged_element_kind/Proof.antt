@@ -1,4 +1,3 @@
--- `checks::check_jagged_element_kind` meets its contract.
 use borrow.Author.Needs.{needs}
 use Rattle.checks.proofs.check_jagged_element_kind.Statement.{statement}
 use Rattle.checks.proofs.check_jagged_element_kind.Tie as tie

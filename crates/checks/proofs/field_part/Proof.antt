@@ -1,4 +1,3 @@
--- `checks::field_part` meets its contract.
 use Rattle.checks.proofs.field_part.Statement.{statement}
 use Rattle.checks.proofs.field_part.Tie as tie
 use native.Mathlib.Omega.{arith}

@@ -1,4 +1,3 @@
--- `checks::find_forward` meets its contract.
 use Rattle.checks.proofs.find_forward.Statement.{statement}
 use Rattle.checks.proofs.find_forward.Tie as tie
 use native.Mathlib.Omega.{arith}

@@ -1,4 +1,3 @@
--- `checks::is_no_struct` meets its contract.
 use borrow.Author.Needs.{needs}
 use Rattle.checks.proofs.is_no_struct.Statement.{statement}
 use Rattle.checks.proofs.is_no_struct.Tie as tie

@@ -1,4 +1,3 @@
--- `checks::reference_at` meets its contract.
 use borrow.Author.Needs.{needs}
 use Rattle.checks.proofs.reference_at.Statement.{statement}
 use Rattle.checks.proofs.reference_at.Tie as tie

@@ -1,4 +1,3 @@
--- `checks::set_chain` meets its contract.
 use borrow.Author.Needs.{needs}
 use Rattle.checks.proofs.set_chain.Statement.{statement}
 use Rattle.checks.proofs.set_chain.Tie as tie

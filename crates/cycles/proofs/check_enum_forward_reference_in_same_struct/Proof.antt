@@ -1,4 +1,3 @@
--- `cycles::check_enum_forward_reference_in_same_struct` meets its contract.
 use borrow.Author.Needs.{needs}
 use Rattle.cycles.proofs.check_enum_forward_reference_in_same_struct.Statement.{statement}
 use Rattle.cycles.proofs.check_enum_forward_reference_in_same_struct.Tie as tie

@@ -1,4 +1,3 @@
--- `cycles::check_enum_tag_layout_cycle` meets its contract.
 use borrow.Author.Needs.{needs}
 use Rattle.cycles.proofs.check_enum_tag_layout_cycle.Statement.{statement}
 use Rattle.cycles.proofs.check_enum_tag_layout_cycle.Tie as tie

@@ -1,4 +1,3 @@
--- `cycles::find_name` meets its contract.
 use Prim.Native.Nat.{_-_, _≤_}
 use borrow.Author.Needs.{needs}
 use native.Mathlib.Omega.{arith}

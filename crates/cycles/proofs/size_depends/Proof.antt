@@ -1,4 +1,3 @@
--- `cycles::size_depends` meets its contract.
 use borrow.Author.Needs.{needs}
 use Rattle.cycles.proofs.size_depends.Statement.{statement}
 use Rattle.cycles.proofs.size_depends.Tie as tie

@@ -1,4 +1,3 @@
--- `demanded::accept` meets its contract.
 use borrow.Author.Needs.{needs}
 use Rattle.demanded.proofs.accept.Statement.{statement}
 use Rattle.demanded.proofs.accept.Tie as tie

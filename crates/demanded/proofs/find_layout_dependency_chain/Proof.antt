@@ -1,4 +1,3 @@
--- `demanded::find_layout_dependency_chain` meets its contract.
 use borrow.Author.Needs.{needs}
 use Rattle.demanded.proofs.find_layout_dependency_chain.Statement.{statement}
 use Rattle.demanded.proofs.find_layout_dependency_chain.Tie as tie

@@ -1,4 +1,3 @@
--- `demanded::renumber` meets its contract.
 use borrow.Author.Needs.{needs}
 use Rattle.demanded.proofs.renumber.Statement.{statement}
 use Rattle.demanded.proofs.renumber.Tie as tie

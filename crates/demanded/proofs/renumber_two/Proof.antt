@@ -1,4 +1,3 @@
--- `demanded::renumber_two` meets its contract.
 use borrow.Author.Needs.{needs}
 use Rattle.demanded.proofs.renumber_two.Statement.{statement}
 use Rattle.demanded.proofs.renumber_two.Tie as tie

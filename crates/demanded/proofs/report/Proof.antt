@@ -1,4 +1,3 @@
--- `demanded::report` meets its contract.
 use borrow.Author.Needs.{needs}
 use Rattle.demanded.proofs.report.Statement.{statement}
 use Rattle.demanded.proofs.report.Tie as tie

@@ -1,4 +1,3 @@
--- `demanded::report_renumbered` meets its contract.
 use borrow.Author.Needs.{needs}
 use Rattle.demanded.proofs.report_renumbered.Statement.{statement}
 use Rattle.demanded.proofs.report_renumbered.Tie as tie

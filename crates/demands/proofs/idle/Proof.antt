@@ -1,4 +1,3 @@
--- `demands::idle` meets its contract.
 use Rattle.demands.proofs.idle.Statement.{statement}
 use Rattle.demands.proofs.idle.Tie as tie
 use Rattle.demands.proofs.Shut.{idle}

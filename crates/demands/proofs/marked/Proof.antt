@@ -1,4 +1,3 @@
--- `demands::marked` meets its contract.
 use Rattle.demands.proofs.marked.Statement.{statement}
 use Rattle.demands.proofs.marked.Tie as tie
 use Rattle.demands.proofs.Examples.{marked}

@@ -1,4 +1,3 @@
--- `demands::one_chain` meets its contract.
 use Rattle.demands.proofs.one_chain.Statement.{statement}
 use Rattle.demands.proofs.one_chain.Tie as tie
 use Rattle.demands.proofs.Chained.{one-chain}

@@ -1,4 +1,3 @@
--- `draft::report_with` meets its contract.
 use borrow.Author.Needs.{needs}
 use Rattle.draft.proofs.report_with.Statement.{statement}
 use Rattle.draft.proofs.report_with.Tie as tie

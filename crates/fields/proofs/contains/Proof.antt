@@ -1,4 +1,3 @@
--- `fields::contains` meets its contract.
 use borrow.Author.Needs.{needs}
 use Rattle.fields.proofs.contains.Statement.{statement}
 use Rattle.fields.proofs.contains.Tie as tie

@@ -1,4 +1,3 @@
--- `fields::end_of` meets its contract.
 use Rattle.fields.proofs.end_of.Statement.{statement}
 use Rattle.fields.proofs.end_of.Tie as tie
 use Prim.Native.Nat.{_+_}

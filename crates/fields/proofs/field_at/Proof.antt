@@ -1,4 +1,3 @@
--- `fields::field_at` meets its contract.
 use borrow.Author.Needs.{needs}
 use Rattle.fields.proofs.field_at.Statement.{statement}
 use Rattle.fields.proofs.field_at.Tie as tie

@@ -1,4 +1,3 @@
--- `fields::find_definition` meets its contract.
 use borrow.Author.Needs.{needs}
 use Rattle.fields.proofs.find_definition.Statement.{statement}
 use Rattle.fields.proofs.find_definition.Tie as tie

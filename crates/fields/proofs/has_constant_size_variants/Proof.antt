@@ -1,4 +1,3 @@
--- `fields::has_constant_size_variants` meets its contract.
 use borrow.Author.Needs.{needs}
 use Rattle.fields.proofs.has_constant_size_variants.Statement.{statement}
 use Rattle.fields.proofs.has_constant_size_variants.Tie as tie

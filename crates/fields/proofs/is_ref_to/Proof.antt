@@ -1,4 +1,3 @@
--- `fields::is_ref_to` meets its contract.
 use borrow.Author.Needs.{needs}
 use Rattle.fields.proofs.is_ref_to.Statement.{statement}
 use Rattle.fields.proofs.is_ref_to.Tie as tie

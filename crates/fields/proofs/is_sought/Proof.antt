@@ -1,4 +1,3 @@
--- `fields::is_sought` meets its contract.
 use borrow.Author.Needs.{needs}
 use Rattle.fields.proofs.is_sought.Statement.{statement}
 use Rattle.fields.proofs.is_sought.Tie as tie

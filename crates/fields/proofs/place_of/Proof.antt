@@ -1,4 +1,3 @@
--- `fields::place_of` meets its contract.
 use borrow.Author.Needs.{needs}
 use Rattle.fields.proofs.place_of.Statement.{statement}
 use Rattle.fields.proofs.place_of.Tie as tie

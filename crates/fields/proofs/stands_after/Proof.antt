@@ -1,4 +1,3 @@
--- `fields::stands_after` meets its contract.
 use borrow.Author.Needs.{needs}
 use Rattle.fields.proofs.stands_after.Statement.{statement}
 use Rattle.fields.proofs.stands_after.Tie as tie

@@ -1,4 +1,3 @@
--- `fields::stands_before` meets its contract.
 use borrow.Author.Needs.{needs}
 use Rattle.fields.proofs.stands_before.Statement.{statement}
 use Rattle.fields.proofs.stands_before.Tie as tie

@@ -1,4 +1,3 @@
--- `fields::struct_of` meets its contract.
 use borrow.Author.Needs.{needs}
 use Rattle.fields.proofs.struct_of.Statement.{statement}
 use Rattle.fields.proofs.struct_of.Tie as tie

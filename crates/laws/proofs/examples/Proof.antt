@@ -1,4 +1,3 @@
--- `laws::examples` meets its contract.
 use Rattle.laws.proofs.examples.Statement.{statement}
 use Rattle.laws.proofs.examples.Tie as tie
 use Rattle.laws.proofs.Computed.{computed}

@@ -1,4 +1,3 @@
--- `laws::exchanges` meets its contract.
 use Rattle.laws.proofs.exchanges.Statement.{statement}
 use Rattle.laws.proofs.exchanges.Tie as tie
 use Rattle.laws.proofs.Gathered.{exchanged}

@@ -1,4 +1,3 @@
--- `laws::jagged_equations` meets its contract.
 use Rattle.laws.proofs.jagged_equations.Statement.{statement}
 use Rattle.laws.proofs.jagged_equations.Tie as tie
 use Rattle.laws.proofs.Gathered.{nested}

@@ -1,4 +1,3 @@
--- `laws::size_equations` meets its contract.
 use Rattle.laws.proofs.size_equations.Statement.{statement}
 use Rattle.laws.proofs.size_equations.Tie as tie
 use Rattle.laws.proofs.Gathered.{sized}

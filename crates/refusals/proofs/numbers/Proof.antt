@@ -1,4 +1,3 @@
--- `refusals::numbers` meets its contract.
 use Rattle.refusals.proofs.numbers.Statement.{statement}
 use Rattle.refusals.proofs.numbers.Tie as tie
 use Rattle.refusals.proofs.Laws.{numbers}

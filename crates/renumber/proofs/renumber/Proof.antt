@@ -1,4 +1,3 @@
--- `renumber::renumber` meets its contract.
 use borrow.Author.Needs.{needs}
 use Rattle.renumber.proofs.renumber.Statement.{statement}
 use Rattle.renumber.proofs.renumber.Tie as tie

@@ -1,4 +1,3 @@
--- `report::report_few` meets its contract.
 use borrow.Author.Needs.{needs}
 use Rattle.report.proofs.report_few.Statement.{statement}
 use Rattle.report.proofs.report_few.Tie as tie

@@ -1,4 +1,3 @@
--- `report::report_many` meets its contract.
 use borrow.Author.Needs.{needs}
 use Rattle.report.proofs.report_many.Statement.{statement}
 use Rattle.report.proofs.report_many.Tie as tie

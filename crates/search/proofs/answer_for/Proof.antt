@@ -1,4 +1,3 @@
--- `search::answer_for` meets its contract.
 use Rattle.chain.proofs.Called.{answers-none, answers-fits, answers-long}
 use native.Mathlib.Omega.{arith}
 use borrow.Author.Needs.{needs}

@@ -1,4 +1,3 @@
--- `search::find_with` meets its contract.
 use borrow.Author.Needs.{needs}
 use native.Mathlib.Omega.{arith}
 use Rattle.chain.proofs.Members.{members-none}

@@ -1,4 +1,3 @@
--- `size_tests::tested_again` meets its contract.
 use borrow.Author.Needs.{needs}
 use Rattle.size_tests.proofs.tested_again.Statement.{statement}
 use Rattle.size_tests.proofs.tested_again.Tie as tie

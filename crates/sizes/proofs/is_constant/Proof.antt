@@ -1,4 +1,3 @@
--- `sizes::is_constant` meets its contract.
 use borrow.Author.Needs.{needs}
 use Rattle.sizes.proofs.is_constant.Statement.{statement}
 use Rattle.sizes.proofs.is_constant.Tie as tie

@@ -1,4 +1,3 @@
--- `validate::check_reference` meets its contract.
 use borrow.Author.Needs.{needs}
 use Rattle.validate.proofs.check_reference.Statement.{statement}
 use Rattle.validate.proofs.check_reference.Tie as tie

@@ -1,4 +1,3 @@
--- `validate::name_of` meets its contract.
 use Rattle.validate.proofs.name_of.Statement.{statement}
 use Rattle.validate.proofs.name_of.Tie as tie
 use mathlib.Core.Path.{_∙_}

@@ -1,4 +1,3 @@
--- `validate::put_check` meets its contract.
 use borrow.Author.Needs.{needs}
 use Rattle.validate.proofs.put_check.Statement.{statement}
 use Rattle.validate.proofs.put_check.Tie as tie

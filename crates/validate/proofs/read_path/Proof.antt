@@ -1,4 +1,3 @@
--- `validate::read_path` meets its contract.
 use borrow.Author.Needs.{needs}
 use Rattle.validate.proofs.read_path.Statement.{statement}
 use Rattle.validate.proofs.read_path.Tie as tie

@@ -1,4 +1,3 @@
--- `validate::record_of` meets its contract.
 use borrow.Author.Needs.{needs}
 use Rattle.validate.proofs.record_of.Statement.{statement}
 use Rattle.validate.proofs.record_of.Tie as tie

@@ -1,4 +1,3 @@
--- `validate::written` meets its contract.
 use borrow.Author.Needs.{needs}
 use Rattle.validate.proofs.written.Statement.{statement}
 use Rattle.validate.proofs.written.Tie as tie

@@ -1,4 +1,3 @@
--- `validators::validate_array_size_constraints` meets its contract.
 use borrow.Author.Needs.{needs}
 use Rattle.validators.proofs.validate_array_size_constraints.Statement.{statement}
 use Rattle.validators.proofs.validate_array_size_constraints.Tie as tie

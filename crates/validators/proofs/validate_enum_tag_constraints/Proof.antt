@@ -1,4 +1,3 @@
--- `validators::validate_enum_tag_constraints` meets its contract.
 use borrow.Author.Needs.{needs}
 use Rattle.validators.proofs.validate_enum_tag_constraints.Statement.{statement}
 use Rattle.validators.proofs.validate_enum_tag_constraints.Tie as tie

@@ -1,4 +1,3 @@
--- `validators::validate_type` meets its contract.
 use borrow.Author.Needs.{needs}
 use Rattle.validators.proofs.validate_type.Statement.{statement}
 use Rattle.validators.proofs.validate_type.Tie as tie

@@ -1,4 +1,3 @@
--- `violation::put_path` meets its contract.
 use borrow.Author.Needs.{needs}
 use Rattle.violation.proofs.put_path.Statement.{statement}
 use Rattle.violation.proofs.put_path.Tie as tie

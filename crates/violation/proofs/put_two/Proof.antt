@@ -1,4 +1,3 @@
--- `violation::put_two` meets its contract.
 use borrow.Author.Needs.{needs}
 use Rattle.violation.proofs.put_two.Statement.{statement}
 use Rattle.violation.proofs.put_two.Tie as tie
