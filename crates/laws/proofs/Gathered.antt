@@ -1,6 +1,7 @@
 -- The statements hold, by the laws of the meaning.
+use Rattle.meaning.proofs.Acceptance.{accepted-iff}
 use Rattle.meaning.proofs.Equations as equations
-use Rattle.meaning.proofs.RenumberingLaws.{exchanged-accepted, exchanged-report}
+use Rattle.meaning.proofs.RenumberingLaws.{renumbered-alike, exchanged-accepted, exchanged-report}
 use Rattle.laws.specs.Equations.{SizeEquations, JaggedEquations}
 use Rattle.laws.specs.Exchanges.{Exchanges}
 
@@ -32,4 +33,9 @@ nested = record {
 }
 
 pub exchanged : Exchanges
-exchanged = record { taken = λ s p a f. exchanged-accepted p a f; reported = λ s p a f. exchanged-report p a f }
+exchanged = record {
+  accepted = accepted-iff;
+  taken = λ s p a f. exchanged-accepted p a f;
+  reported = λ s p a f. exchanged-report p a f;
+  alike = λ s t p q a b. renumbered-alike p q a b;
+}

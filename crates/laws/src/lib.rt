@@ -13,7 +13,7 @@ pub fn jagged_equations()
     ensures { λ r. ⌜ JaggedEquations ⌝ }
 {}
 
-// An exchange of names changes nothing but the names.
+// Bytes are accepted exactly where they are those of a bundle, and an exchange of names changes nothing but the names.
 pub fn exchanges()
     ensures { λ r. ⌜ Exchanges ⌝ }
 {}
