@@ -1,9 +1,10 @@
 -- The statements hold, by the laws of the meaning.
 use mathlib.Core.Path.{sym}
+use Rattle.meaning.proofs.Acceptance.{accepted-iff}
 use Rattle.meaning.proofs.Equations as equations
 use Rattle.meaning.proofs.Mapped.{bundle-names, bundle-mapped}
 use Rattle.meaning.proofs.Equivariance.{violations-exchange, reportItems-map}
-use Rattle.meaning.proofs.RenumberingLaws.{exchanged-accepted, exchanged-report}
+use Rattle.meaning.proofs.RenumberingLaws.{renumbered-alike, exchanged-accepted, exchanged-report}
 use Rattle.laws.specs.Equations.{SizeEquations, JaggedEquations}
 use Rattle.laws.specs.Exchanges.{Named, Exchanges}
 
@@ -42,4 +43,10 @@ in-the-tree = record {
 }
 
 pub exchanged : Exchanges
-exchanged = record { found = λ b ok f. violations-exchange f b ok; taken = λ s p a f. exchanged-accepted p a f; reported = λ s p a f. exchanged-report p a f }
+exchanged = record {
+  accepted = accepted-iff;
+  found = λ b ok f. violations-exchange f b ok;
+  taken = λ s p a f. exchanged-accepted p a f;
+  reported = λ s p a f. exchanged-report p a f;
+  alike = λ s t p q a b. renumbered-alike p q a b;
+}

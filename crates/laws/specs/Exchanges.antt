@@ -1,8 +1,9 @@
--- An exchange of names changes nothing but the names, 0 included.
+-- An exchange of names changes nothing but the names, 0 included; and bytes are accepted exactly where they are those of a bundle.
 use Prim.Native.Nat.{ℕ}
-use mathlib.Core.List.{List, map}
+use mathlib.Core.List.{List, [], map}
+use mathlib.Core.Logic.{_↔_}
 use mathlib.Core.Path.{_≡_}
-use Rattle.names.specs.Names.{Names, Exchange}
+use Rattle.names.specs.Names.{Names, Exchange, Alike}
 use Rattle.names.specs.Documents.{bytes, names, mapNames}
 use Rattle.names.specs.Records.{mapBytes}
 use Rattle.meaning.specs.Kinds.{body}
@@ -11,8 +12,8 @@ use Rattle.meaning.specs.Encoding.{Bytes, bundleItems}
 use Rattle.meaning.specs.Renumbering.{bundleNames, mapBundle, mapViolation}
 use Rattle.meaning.specs.Violations.{Violation, violations}
 use Rattle.meaning.specs.Report.{reportItems}
-use Rattle.meaning.specs.Calls.{result, Accepted}
-use Rattle.meaning.specs.Due.{reporting}
+use Rattle.meaning.specs.Calls.{result, acceptance, Accepted}
+use Rattle.meaning.specs.Due.{reporting, renumbering}
 
 -- The names in the bytes are those of the tree, and of the violations.
 pub record Named : Type 0 where
@@ -24,6 +25,8 @@ pub record Named : Type 0 where
   pub reported : (f : ℕ → ℕ) (vs : List Violation) → mapNames f (reportItems vs) ≡ reportItems (map (mapViolation f) vs)
 
 pub record Exchanges : Type 0 where
+  -- what is due to a call that asks whether the bytes are accepted
+  pub accepted : (s : List ℕ) → Bytes s → (acceptance s ≡ result []) ↔ Accepted s
   -- the violations of a bundle with its names exchanged are its violations with their names exchanged
   pub found : (b : Bundle) → Names (bundleNames b) → (f : Exchange) → violations (mapBundle (f .to) b) ≡ map (mapViolation (f .to)) (violations b)
   -- the bundle is accepted with its names exchanged
@@ -31,3 +34,5 @@ pub record Exchanges : Type 0 where
   -- and its report has the names exchanged
   pub reported : (s : List ℕ) → Bytes s → (a : Accepted s) (f : Exchange)
       → reporting (mapBytes body (f .to) s) ≡ result (bytes (mapNames (f .to) (reportItems (violations (a .tree)))))
+  -- two bundles are renumbered to one exactly where some exchange that sends 0 to 0 turns one into the other
+  pub alike : (s t : List ℕ) → Bytes s → Bytes t → Accepted s → Accepted t → (renumbering s ≡ renumbering t) ↔ Alike (mapBytes body) s t

@@ -18,7 +18,7 @@ pub fn names_in_bytes()
     ensures { λ r. ⌜ Named ⌝ }
 {}
 
-// An exchange of names changes nothing but the names.
+// Bytes are accepted exactly where they are those of a bundle, and an exchange of names changes nothing but the names.
 pub fn exchanges()
     ensures { λ r. ⌜ Exchanges ⌝ }
 {}
