@@ -3,7 +3,7 @@ use decimal::Parsed;
 ghost use mathlib.Core.List.{List, [], _∷_};
 ghost use Prim.Native.Nat.{ℕ};
 ghost use Rattle.decimal.specs.Parsing.{IsParsed};
-ghost use Rattle.words.specs.Words.{IsWord, Asks, wordsOf};
+ghost use Rattle.words.specs.Words.{IsWord, Asks, AsksOnly, wordsOf};
 
 // A first word.
 enum Word {
@@ -33,6 +33,12 @@ fn word_of(word: &[u8]) -> Word
         return Word::Chain;
     }
     if check::same(word, b"help") {
+        return Word::Help;
+    }
+    if check::same(word, b"--help") {
+        return Word::Help;
+    }
+    if check::same(word, b"-h") {
         return Word::Help;
     }
     Word::Other
@@ -69,6 +75,7 @@ fn between(word: Word, from: Parsed, to: Parsed) -> Order
 // What the arguments ask for, of which there are `count`, the program's own name among them.
 pub fn order_of(count: usize, first: &[u8], second: &[u8], third: &[u8]) -> Order
     ensures { λ r. ⌜ Asks (wordsOf count (now (first .entry)) (now (second .entry)) (now (third .entry))) r ⌝ }
+    ensures { λ r. ⌜ AsksOnly (wordsOf count (now (first .entry)) (now (second .entry)) (now (third .entry))) r ⌝ }
 {
     if count <= 1 {
         return Order::Report;
