@@ -1,8 +1,10 @@
-// What the program's arguments ask for.
+// What the program's arguments ask for, and what the program makes of what is read and written.
 use decimal::Parsed;
 ghost use mathlib.Core.List.{List, [], _∷_};
 ghost use Prim.Native.Nat.{ℕ};
 ghost use Rattle.decimal.specs.Parsing.{IsParsed};
+ghost use mathlib.Core.Path.{_≡_};
+ghost use Rattle.words.specs.Running.{readsBundle, turnOf, messageOf};
 ghost use Rattle.words.specs.Words.{IsWord, Asks, AsksOnly, wordsOf};
 
 // A first word.
@@ -89,4 +91,67 @@ pub fn order_of(count: usize, first: &[u8], second: &[u8], third: &[u8]) -> Orde
         return between(word_of(first), from, to);
     }
     Order::Wrong
+}
+
+// What reading came to.
+pub enum Input {
+    Bytes(usize),
+    Failed,
+}
+
+// What one read says.
+pub enum Turn {
+    More(usize),
+    End,
+    Failed,
+}
+
+// What is said on standard error.
+pub enum Message {
+    Nothing,
+    Arguments,
+    Unread,
+    Unwritten,
+}
+
+// Whether an order is for a bundle.
+pub fn reads_bundle(order: Order) -> bool
+    ensures { λ r. ⌜ r ≡ readsBundle order ⌝ }
+{
+    match order {
+        Order::Report => true,
+        Order::Renumber => true,
+        Order::Chain(_, _) => true,
+        Order::Help => false,
+        Order::Wrong => false,
+    }
+}
+
+// What a read says by its answer.
+pub fn turn_of(got: isize) -> Turn
+    ensures { λ r. ⌜ r ≡ turnOf got ⌝ }
+{
+    if got < 0 {
+        return Turn::Failed;
+    }
+    if got == 0 {
+        return Turn::End;
+    }
+    Turn::More(got as usize)
+}
+
+// What is said, where all of the output was written or not.
+pub fn message_of(order: Order, input: Input, written: bool) -> Message
+    ensures { λ r. ⌜ r ≡ messageOf order input written ⌝ }
+{
+    if let Order::Wrong = order {
+        return Message::Arguments;
+    }
+    if let Input::Failed = input {
+        return Message::Unread;
+    }
+    if written {
+        return Message::Nothing;
+    }
+    Message::Unwritten
 }
