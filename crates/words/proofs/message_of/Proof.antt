@@ -1,32 +1,27 @@
+-- `words::message_of` meets its contract.
 use borrow.Author.Needs.{needs}
 use Rattle.words.proofs.message_of.Statement.{statement}
 use Rattle.words.proofs.message_of.Tie as tie
 use Rattle.words.proofs.Running.{says-unread, says-unwritten, says-nothing}
 
--- src/lib.rt:148:9
 enum-told : tie.Need-enum-told
 enum-told c = search needs
 
--- src/lib.rt:148:9
 returns : tie.Need-returns
 returns c = search needs
 
--- src/lib.rt:151:9
 enum-told-2 : tie.Need-enum-told-2
 enum-told-2 c = search needs
 
--- src/lib.rt:151:9
 returns-2 : tie.Need-returns-2
 returns-2 c = let a = c .before .before .before .args in says-unread (a .order) (c .before .before .match .keys2) (a .input) (a .written) (c .enum-told2 .given .1)
 
 enum-told-3 : tie.Need-enum-told-3
 enum-told-3 c = search needs
 
--- src/lib.rt:154:9
 returns-3 : tie.Need-returns-3
 returns-3 c = let a = c .before .before .before .before .args in says-nothing (a .order) (c .before .before .before .match .keys2) (a .input) (a .written) (c .before .enum-told3 .given .1) (c .if1 .taken)
 
--- src/lib.rt:144:1
 returns-4 : tie.Need-returns-4
 returns-4 c = let a = c .before .before .before .before .args in says-unwritten (a .order) (c .before .before .before .match .keys2) (a .input) (a .written) (c .before .enum-told3 .given .1) (c .if1 .left)
 
