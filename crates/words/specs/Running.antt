@@ -1,5 +1,5 @@
 -- What the program makes of what is read and written.
-use Prim.Native.Nat.{ℕ, zero, suc}
+use Prim.Native.Nat.{zero, suc}
 use mathlib.Core.Bool.{Bool, true, false}
 use lib.IntN.{ℤ, pos, negsuc}
 use Rattle.words.specs.declared.Order.{Order}
