@@ -28,7 +28,7 @@ start() {
     '') "$program" "$@" > "$work/out" ;;
     ' > full') "$program" "$@" > /dev/full ;;
     ' > closed') "$program" "$@" >&- ;;
-    *) echo "no such output:$to" ;;
+    *) echo "no such output:$to" >&2 ;;
   esac
 }
 
