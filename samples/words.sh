@@ -1,13 +1,17 @@
 #!/bin/sh
-# Runs the program with each of its words, as samples/words.txt says, and at the limits, and compares what it writes.
+# Runs the program with each of its words, as samples/words.txt says, with input and output that fail and at the limits, and compares
+# what it writes and what it leaves unread.
 # Usage: samples/words.sh [PROGRAM]        (`rt check layout` makes target/bin/layout)
 set -eu
 cd "$(dirname "$0")/.."
 program=${1:-target/bin/layout}
 work=$(mktemp -d)
 trap 'rm -rf "$work"' EXIT
-echo 'layout: wrong arguments; take none, renumber, chain FROM TO (0 to 65535) or help' > "$work/message"
+echo 'layout: wrong arguments; take none, renumber, chain FROM TO (0 to 65535) or help' > "$work/wrong"
+echo 'layout: standard input cannot be read' > "$work/unread"
+echo 'layout: standard output cannot be written' > "$work/unwritten"
 : > "$work/nothing"
+[ -c /dev/full ] || { echo 'samples/words.sh: no device /dev/full'; exit 1; }
 passed=0
 failed=0
 
@@ -18,9 +22,26 @@ bytes() {
       printf "\\%03o", 16 * (index(d, substr($0, i, 1)) - 1) + index(d, substr($0, i + 1, 1)) - 1 }')"
 }
 
-# Runs the program on $work/input with these arguments. What it does not read goes to $work/left.
+# Runs the program with its standard output as $to says.
+start() {
+  case $to in
+    '') "$program" "$@" > "$work/out" ;;
+    ' > full') "$program" "$@" > /dev/full ;;
+    ' > closed') "$program" "$@" >&- ;;
+    *) echo "no such output:$to" >&2 ;;
+  esac
+}
+
+# Runs the program with these arguments on what $from says: a folder, no open file, or else $work/input. What it does not read of
+# the last goes to $work/left.
 run() {
-  { "$program" "$@" > "$work/out" 2> "$work/err" || echo "status $?" >> "$work/err"; cat > "$work/left"; } < "$work/input"
+  : > "$work/out"
+  : > "$work/left"
+  case $from in
+    directory) start "$@" < "$work" ;;
+    closed) start "$@" <&- ;;
+    *) { start "$@" || echo "status $?" >&2; cat > "$work/left"; } < "$work/input" ;;
+  esac 2> "$work/err" || echo "status $?" >> "$work/err"
 }
 
 # Compares with $work/due, and with the message and the input that is due to be left.
@@ -36,17 +57,27 @@ compare() {
   fi
 }
 
-# NAME, ARGUMENTS and ANSWER of a case.
+# INPUT, ARGUMENTS and ANSWER of a case.
 try() {
-  cp "$work/bundle-$1" "$work/input"
+  from=${1%% *}
+  to=${1#"$from"}
+  case $from in
+    directory | closed) : > "$work/input" ;;
+    *) cp "$work/bundle-$from" "$work/input" ;;
+  esac
   eval "run $2"
+  : > "$work/due"
   message=$work/nothing
   left=$work/nothing
   case $3 in
     bytes*) bytes "${3#bytes}" > "$work/due" ;;
     lines*) for n in ${3#lines}; do echo "$n"; done > "$work/due" ;;
     help) cp samples/words.help "$work/due"; left=$work/input ;;
-    wrong) : > "$work/due"; message=$work/message; left=$work/input ;;
+    wrong) message=$work/wrong; left=$work/input ;;
+    unread) message=$work/unread ;;
+    unwritten) message=$work/unwritten ;;
+    'unwritten help') message=$work/unwritten; left=$work/input ;;
+    *) echo "no such answer: $3"; exit 1 ;;
   esac
   compare "$1, $2" "$message" "$left"
 }
@@ -60,9 +91,9 @@ while IFS= read -r line; do
       ;;
     'case '*)
       rest=${line#case }
-      name=${rest%% *}
+      input=${rest%% |*}
       rest=${rest#*| }
-      try "$name" "${rest%%|*}" "${rest##*| }"
+      try "$input" "${rest%%|*}" "${rest##*| }"
       ;;
   esac
 done < samples/words.txt
@@ -73,6 +104,8 @@ edge() {
 }
 { bytes '60 0000 0004 0000'; n=64511; while [ $n -lt 65535 ]; do bytes "$(edge $n)"; n=$((n + 1)); done; } > "$work/bundle-longest"
 cp "$work/bundle-longest" "$work/input"
+from=longest
+to=
 n=64511
 while [ $n -le 65535 ]; do echo $n; n=$((n + 1)); done > "$work/due"
 run chain 64511 65535

@@ -1,1 +1,2 @@
 pub mod Responding
+pub mod Reading

@@ -6,6 +6,8 @@ use lib.ListN.{length, take}
 use Rattle.decimal.specs.Decimal.{lines}
 use Rattle.meaning.specs.Calls.{Answer, accepted, refusedWith, Outcome, result, refusal, answerOf}
 use Rattle.meaning.specs.Due.{reporting, renumbering, chaining}
+use Rattle.words.specs.declared.Input.{Input}
+use Rattle.words.specs.declared.Input.the-variants.{Bytes, Failed}
 use Rattle.words.specs.declared.Order.{Order}
 use Rattle.words.specs.declared.Order.the-variants.{Report, Renumber, Chain, Help, Wrong}
 
@@ -35,6 +37,11 @@ answerTo Renumber s lent = responseTo (renumbering s) lent
 answerTo (Chain from to) s lent = linesTo (chaining from to s)
 answerTo Help s lent = []
 answerTo Wrong s lent = []
+
+-- what goes to standard output for what was read into the places: nothing where reading failed. The text of help is the code's
+abbrev pub outputOf : Order → Input → List ℕ → ℕ → List ℕ
+outputOf order (Bytes n) places lent = answerTo order (take n places) lent
+outputOf order Failed places lent = []
 
 -- the text stands in the first r places
 pub record Holds (text places : List ℕ) (r : ℕ) : Type 0 where

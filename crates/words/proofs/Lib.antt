@@ -1,2 +1,3 @@
 pub mod Orders
 pub mod One
+pub mod Running

@@ -3,7 +3,8 @@ use Prim.Native.Nat.{ℕ, _-_, _≤_, _<_}
 use native.Mathlib.Omega.{arith}
 use mathlib.Core.Bool.{Bool, true, false, true≢false}
 use mathlib.Core.List.{List, [], _∷_}
-use mathlib.Core.Path.{_≡_, refl, sym, ap, subst, subst⁻¹, _∙_}
+use mathlib.Core.Logic.{inl, inr}
+use mathlib.Core.Path.{_≡_, ap, subst, subst⁻¹}
 use lib.ListN.{length, getD, length-take}
 use types.Run.{OneOf, miss}
 use denote.Enum.Declared.{tagOf}
@@ -13,7 +14,7 @@ use Rattle.decimal.specs.Decimal.{Says}
 use Rattle.decimal.specs.Parsing.{IsParsed}
 use Rattle.words.specs.declared.Word as word
 use Rattle.words.specs.declared.Word.the-variants as is
-use Rattle.words.specs.Words.{renumberWord, chainWord, helpWord, IsWord, AsksChain, AsksNothing, wordsOf}
+use Rattle.words.specs.Words.{renumberWord, chainWord, IsHelp, IsWord, AsksChain, AsksNothing, wordsOf}
 use Rattle.words.proofs.Word.{the-type}
 
 -- as many words as nothing has
@@ -22,17 +23,17 @@ wrong-count ws some one three =
     record {
       some = λ e. omega (arith, ap length e);
       renumber = λ e. one (ap length e);
-      help = λ e. one (ap length e);
+      help = λ a. one (ap length (a .all));
       chain = λ from to a. three (ap length (a .all));
     }
 
 -- one word
-pub wrong-alone : (w : List ℕ) → (w ≡ renumberWord → ⊥) → (w ≡ helpWord → ⊥) → AsksNothing (w ∷ [])
+pub wrong-alone : (w : List ℕ) → (w ≡ renumberWord → ⊥) → (IsHelp w → ⊥) → AsksNothing (w ∷ [])
 wrong-alone w a b =
     record {
       some = λ e. omega (arith, ap length e);
       renumber = λ e. a (ap (λ ws. getD ws 0 []) e);
-      help = λ e. b (ap (λ ws. getD ws 0 []) e);
+      help = λ a. b (subst⁻¹ IsHelp (ap (λ ws. getD ws 0 []) (a .all)) (a .is-help));
       chain = λ from to a. omega (arith, ap length (a .all));
     }
 
@@ -42,26 +43,26 @@ wrong-three w x y none =
     record {
       some = λ e. omega (arith, ap length e);
       renumber = λ e. omega (arith, ap length e);
-      help = λ e. omega (arith, ap length e);
+      help = λ a. omega (arith, ap length (a .all));
       chain = λ from to a.
           none (ap (λ ws. getD ws 0 []) (a .all)) from to (subst⁻¹ (λ s. Says s from) (ap (λ ws. getD ws 1 []) (a .all)) (a .says-from))
           (subst⁻¹ (λ s. Says s to) (ap (λ ws. getD ws 2 []) (a .all)) (a .says-to));
     }
 
--- the three words differ
-differ : (v w : List ℕ) (a b : ℕ) → getD v 0 0 ≡ a → getD w 0 0 ≡ b → (a ≡ b → ⊥) → v ≡ w → ⊥
-differ v w a b p q d e = d (sym p ∙ ap (λ l. getD l 0 0) e ∙ q)
+-- no word for help is as long as "chain" or "renumber"
+pub help-size : {w : List ℕ} → IsHelp w → (length w ≡ 5 → ⊥) × (length w ≡ 8 → ⊥)
+help-size (inl e) = (λ n. omega (arith, ap length e), λ n. omega (arith, ap length e))
+help-size (inr (inl e)) = (λ n. omega (arith, ap length e), λ n. omega (arith, ap length e))
+help-size (inr (inr e)) = (λ n. omega (arith, ap length e), λ n. omega (arith, ap length e))
 
 pub chain-alone : (w : List ℕ) → w ≡ chainWord → AsksNothing (w ∷ [])
-chain-alone w h =
-    let first : getD w 0 0 ≡ 99 = ap (λ l. getD l 0 0) h in
-    wrong-alone w (differ w renumberWord 99 114 first refl (λ e. omega arith)) (differ w helpWord 99 104 first refl (λ e. omega arith))
+chain-alone w h = let size = ap length h in wrong-alone w (λ e. omega (arith, ap length e)) (λ k. help-size k .0 size)
 
 -- a word that is no "chain"
 pub not-chain : (v : word.Word) → OneOf (0 ∷ 2 ∷ 3 ∷ []) (tagOf the-type v) → (w : List ℕ) → IsWord w v → w ≡ chainWord → ⊥
-not-chain is.Renumber o w h e = differ w chainWord 114 99 (ap (λ l. getD l 0 0) h) refl (λ e. omega arith) e
+not-chain is.Renumber o w h e = omega (arith, ap length h, ap length e)
 not-chain is.Chain o w h e = absurd (miss (0 ∷ 2 ∷ 3 ∷ []) 1 tt o)
-not-chain is.Help o w h e = differ w chainWord 104 99 (ap (λ l. getD l 0 0) h) refl (λ e. omega arith) e
+not-chain is.Help o w h e = help-size h .0 (ap length e)
 not-chain is.Other o w h e = h .1 e
 
 -- "chain" with two words

@@ -1,6 +1,7 @@
 -- What the words behind the program's name ask for.
 use Prim.Native.Nat.{ℕ, _-_}
 use mathlib.Core.List.{List, [], _∷_}
+use mathlib.Core.Logic.{_⊎_}
 use mathlib.Core.Path.{_≡_}
 use lib.ListN.{take}
 use Rattle.decimal.specs.Decimal.{Says}
@@ -9,7 +10,7 @@ use Rattle.words.specs.declared.Word.the-variants as is
 use Rattle.words.specs.declared.Order.{Order}
 use Rattle.words.specs.declared.Order.the-variants.{Report, Renumber, Chain, Help, Wrong}
 
--- the words, in ASCII: renumber, chain, help
+-- the words, in ASCII: renumber, chain, help, --help, -h
 abbrev pub renumberWord : List ℕ
 renumberWord = 114 ∷ 101 ∷ 110 ∷ 117 ∷ 109 ∷ 98 ∷ 101 ∷ 114 ∷ []
 
@@ -19,12 +20,22 @@ chainWord = 99 ∷ 104 ∷ 97 ∷ 105 ∷ 110 ∷ []
 abbrev pub helpWord : List ℕ
 helpWord = 104 ∷ 101 ∷ 108 ∷ 112 ∷ []
 
+abbrev pub longHelpWord : List ℕ
+longHelpWord = 45 ∷ 45 ∷ helpWord
+
+abbrev pub shortHelpWord : List ℕ
+shortHelpWord = 45 ∷ 104 ∷ []
+
+-- the bytes are a word for help
+abbrev pub IsHelp : List ℕ → Type 0
+IsHelp w = (w ≡ helpWord) ⊎ (w ≡ longHelpWord) ⊎ (w ≡ shortHelpWord)
+
 -- the bytes are this word
 abbrev pub IsWord : List ℕ → word.Word → Type 0
 IsWord w is.Renumber = w ≡ renumberWord
 IsWord w is.Chain = w ≡ chainWord
-IsWord w is.Help = w ≡ helpWord
-IsWord w is.Other = (w ≡ renumberWord → ⊥) × (w ≡ chainWord → ⊥) × (w ≡ helpWord → ⊥)
+IsWord w is.Help = IsHelp w
+IsWord w is.Other = (w ≡ renumberWord → ⊥) × (w ≡ chainWord → ⊥) × (IsHelp w → ⊥)
 
 -- "chain" and two words that say names
 pub record AsksChain (words : List (List ℕ)) (from to : ℕ) : Type 0 where
@@ -34,11 +45,17 @@ pub record AsksChain (words : List (List ℕ)) (from to : ℕ) : Type 0 where
   pub says-from : Says first from
   pub says-to : Says last to
 
+-- one word for help and no other
+pub record AsksHelp (words : List (List ℕ)) : Type 0 where
+  pub word : List ℕ
+  pub all : words ≡ word ∷ []
+  pub is-help : IsHelp word
+
 -- nothing that there is
 pub record AsksNothing (words : List (List ℕ)) : Type 0 where
   pub some : words ≡ [] → ⊥
   pub renumber : words ≡ renumberWord ∷ [] → ⊥
-  pub help : words ≡ helpWord ∷ [] → ⊥
+  pub help : AsksHelp words → ⊥
   pub chain : (from to : ℕ) → AsksChain words from to → ⊥
 
 -- the words ask for this
@@ -46,8 +63,12 @@ abbrev pub Asks : List (List ℕ) → Order → Type 0
 Asks words Report = words ≡ []
 Asks words Renumber = words ≡ renumberWord ∷ []
 Asks words (Chain from to) = AsksChain words from to
-Asks words Help = words ≡ helpWord ∷ []
+Asks words Help = AsksHelp words
 Asks words Wrong = AsksNothing words
+
+-- the words ask for nothing else
+abbrev pub AsksOnly : List (List ℕ) → Order → Type 0
+AsksOnly words o = (p : Order) → Asks words p → p ≡ o
 
 -- the words behind the program's name, where there are `count` with it: those behind the third stand as one empty word
 abbrev pub wordsOf : ℕ → List ℕ → List ℕ → List ℕ → List (List ℕ)

@@ -1,9 +1,11 @@
-// What the program's arguments ask for.
+// What the program's arguments ask for, and what the program makes of what is read and written.
 use decimal::Parsed;
 ghost use mathlib.Core.List.{List, [], _∷_};
 ghost use Prim.Native.Nat.{ℕ};
 ghost use Rattle.decimal.specs.Parsing.{IsParsed};
-ghost use Rattle.words.specs.Words.{IsWord, Asks, wordsOf};
+ghost use mathlib.Core.Path.{_≡_};
+ghost use Rattle.words.specs.Running.{readsBundle, turnOf, messageOf};
+ghost use Rattle.words.specs.Words.{IsWord, Asks, AsksOnly, wordsOf};
 
 // A first word.
 enum Word {
@@ -33,6 +35,12 @@ fn word_of(word: &[u8]) -> Word
         return Word::Chain;
     }
     if check::same(word, b"help") {
+        return Word::Help;
+    }
+    if check::same(word, b"--help") {
+        return Word::Help;
+    }
+    if check::same(word, b"-h") {
         return Word::Help;
     }
     Word::Other
@@ -69,6 +77,7 @@ fn between(word: Word, from: Parsed, to: Parsed) -> Order
 // What the arguments ask for, of which there are `count`, the program's own name among them.
 pub fn order_of(count: usize, first: &[u8], second: &[u8], third: &[u8]) -> Order
     ensures { λ r. ⌜ Asks (wordsOf count (now (first .entry)) (now (second .entry)) (now (third .entry))) r ⌝ }
+    ensures { λ r. ⌜ AsksOnly (wordsOf count (now (first .entry)) (now (second .entry)) (now (third .entry))) r ⌝ }
 {
     if count <= 1 {
         return Order::Report;
@@ -82,4 +91,67 @@ pub fn order_of(count: usize, first: &[u8], second: &[u8], third: &[u8]) -> Orde
         return between(word_of(first), from, to);
     }
     Order::Wrong
+}
+
+// What reading came to.
+pub enum Input {
+    Bytes(usize),
+    Failed,
+}
+
+// What one read says.
+pub enum Turn {
+    More(usize),
+    End,
+    Failed,
+}
+
+// What is said on standard error.
+pub enum Message {
+    Nothing,
+    Arguments,
+    Unread,
+    Unwritten,
+}
+
+// Whether an order is for a bundle.
+pub fn reads_bundle(order: Order) -> bool
+    ensures { λ r. ⌜ r ≡ readsBundle order ⌝ }
+{
+    match order {
+        Order::Report => true,
+        Order::Renumber => true,
+        Order::Chain(_, _) => true,
+        Order::Help => false,
+        Order::Wrong => false,
+    }
+}
+
+// What a read says by its answer.
+pub fn turn_of(got: isize) -> Turn
+    ensures { λ r. ⌜ r ≡ turnOf got ⌝ }
+{
+    if got < 0 {
+        return Turn::Failed;
+    }
+    if got == 0 {
+        return Turn::End;
+    }
+    Turn::More(got as usize)
+}
+
+// What is said, where all of the output was written or not.
+pub fn message_of(order: Order, input: Input, written: bool) -> Message
+    ensures { λ r. ⌜ r ≡ messageOf order input written ⌝ }
+{
+    if let Order::Wrong = order {
+        return Message::Arguments;
+    }
+    if let Input::Failed = input {
+        return Message::Unread;
+    }
+    if written {
+        return Message::Nothing;
+    }
+    Message::Unwritten
 }

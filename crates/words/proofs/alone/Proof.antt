@@ -2,7 +2,7 @@ use borrow.Author.Needs.{needs}
 use Rattle.words.proofs.alone.Statement.{statement}
 use Rattle.words.proofs.alone.Tie as tie
 use mathlib.Core.List.{[], _∷_}
-use mathlib.Core.Path.{ap}
+use mathlib.Core.Path.{refl, ap}
 use Rattle.words.proofs.Orders.{by-word, chain-alone, wrong-alone}
 
 enum-told : tie.Need-enum-told
@@ -24,7 +24,7 @@ returns-2 : tie.Need-returns-2
 returns-2 c = λ w h. chain-alone w (by-word w (c .enum-told2 .given .1) h)
 
 returns-3 : tie.Need-returns-3
-returns-3 c = λ w h. ap (λ v. v ∷ []) (by-word w (c .enum-told3 .given .1) h)
+returns-3 c = λ w h. record { word = w; all = refl; is-help = by-word w (c .enum-told3 .given .1) h }
 
 returns-4 : tie.Need-returns-4
 returns-4 c = λ w h. let other = by-word w (c .enum-told4 .given .1) h in wrong-alone w (other .0) (other .2)

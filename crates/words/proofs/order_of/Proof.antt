@@ -1,10 +1,12 @@
 use borrow.Author.Needs.{needs}
 use Rattle.words.proofs.order_of.Statement.{statement}
 use Rattle.words.proofs.order_of.Tie as tie
+use Rattle.words.specs.declared.Order.the-variants.{Report, Wrong}
 use Rattle.words.proofs.Orders.{no-words, other-words}
+use Rattle.words.proofs.One.{asks-only}
 
 returns : tie.Need-returns
-returns c = no-words _ _ _ _ (c .if1 .taken)
+returns c = asks-only _ Report (no-words _ _ _ _ (c .if1 .taken))
 
 word-of-requires : tie.Need-word-of-requires
 word-of-requires c κs = search needs
@@ -13,7 +15,7 @@ alone-requires : tie.Need-alone-requires
 alone-requires c κs = search needs
 
 returns-2 : tie.Need-returns-2
-returns-2 c = rw (c .before .before .if2 .taken) (c .alone .ensures _ (c .before .word-of .ensures))
+returns-2 c = rw (c .before .before .if2 .taken) (asks-only _ _ (c .alone .ensures _ (c .before .word-of .ensures)))
 
 parse-name-requires : tie.Need-parse-name-requires
 parse-name-requires c κs = search needs
@@ -28,10 +30,10 @@ between-requires : tie.Need-between-requires
 between-requires c κs = search needs
 
 returns-3 : tie.Need-returns-3
-returns-3 c = rw (c .before .before .before .before .if3 .taken) (c .between .ensures _ _ _ (c .before .word-of2 .ensures) (c .before .before .before .parse-name .ensures) (c .before .before .parse-name2 .ensures))
+returns-3 c = rw (c .before .before .before .before .if3 .taken) (asks-only _ _ (c .between .ensures _ _ _ (c .before .word-of2 .ensures) (c .before .before .before .parse-name .ensures) (c .before .before .parse-name2 .ensures)))
 
 returns-4 : tie.Need-returns-4
-returns-4 c = other-words _ _ _ _ (c .before .before .if1 .left) (c .before .if2 .left) (c .if3 .left)
+returns-4 c = asks-only _ Wrong (other-words _ _ _ _ (c .before .before .if1 .left) (c .before .if2 .left) (c .if3 .left))
 
 pub order-of-spec : {M : Type 1} → statement M
 order-of-spec =

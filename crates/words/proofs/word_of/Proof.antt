@@ -1,4 +1,5 @@
 use borrow.Author.Needs.{needs}
+use mathlib.Core.Logic.{⊎-elim, inl, inr}
 use Rattle.words.proofs.word_of.Statement.{statement}
 use Rattle.words.proofs.word_of.Tie as tie
 use Rattle.words.proofs.Orders.{unlike}
@@ -28,10 +29,33 @@ same-requires-3 : tie.Need-same-requires-3
 same-requires-3 c κs = search needs
 
 returns-3 : tie.Need-returns-3
-returns-3 c = c .before .same3 .ensures .0 (c .if3 .taken)
+returns-3 c = inl (c .before .same3 .ensures .0 (c .if3 .taken))
+
+slice-aggregate-same-4 : tie.Need-slice-aggregate-same-4
+slice-aggregate-same-4 c = search needs
+
+same-requires-4 : tie.Need-same-requires-4
+same-requires-4 c κs = search needs
 
 returns-4 : tie.Need-returns-4
-returns-4 c = (unlike (c .before .before .before .before .before .before .if1 .left) (c .before .before .before .before .before .before .before .same .ensures .1), unlike (c .before .before .before .if2 .left) (c .before .before .before .before .same2 .ensures .1), unlike (c .if3 .left) (c .before .same3 .ensures .1))
+returns-4 c = inr (inl (c .before .same4 .ensures .0 (c .if4 .taken)))
+
+slice-aggregate-same-5 : tie.Need-slice-aggregate-same-5
+slice-aggregate-same-5 c = search needs
+
+same-requires-5 : tie.Need-same-requires-5
+same-requires-5 c κs = search needs
+
+returns-5 : tie.Need-returns-5
+returns-5 c = inr (inr (c .before .same5 .ensures .0 (c .if5 .taken)))
+
+returns-6 : tie.Need-returns-6
+returns-6 c = (
+  unlike (c .before .before .before .before .before .before .before .before .before .before .before .before .if1 .left) (c .before .before .before .before .before .before .before .before .before .before .before .before .before .same .ensures .1),
+  unlike (c .before .before .before .before .before .before .before .before .before .if2 .left) (c .before .before .before .before .before .before .before .before .before .before .same2 .ensures .1),
+  ⊎-elim (unlike (c .before .before .before .before .before .before .if3 .left) (c .before .before .before .before .before .before .before .same3 .ensures .1))
+      (⊎-elim (unlike (c .before .before .before .if4 .left) (c .before .before .before .before .same4 .ensures .1)) (unlike (c .if5 .left) (c .before .same5 .ensures .1))),
+)
 
 pub word-of-spec : {M : Type 1} → statement M
 word-of-spec =
@@ -46,4 +70,10 @@ word-of-spec =
     slice-aggregate-same-3
     same-requires-3
     returns-3
-    returns-4)
+    slice-aggregate-same-4
+    same-requires-4
+    returns-4
+    slice-aggregate-same-5
+    same-requires-5
+    returns-5
+    returns-6)
