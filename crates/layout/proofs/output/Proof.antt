@@ -1,4 +1,3 @@
--- `layout::output` meets its contract.
 use borrow.Author.Needs.{needs}
 use Rattle.layout.proofs.output.Statement.{statement}
 use Rattle.layout.proofs.output.Tie as tie

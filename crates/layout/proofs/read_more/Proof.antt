@@ -1,4 +1,3 @@
--- `layout::read_more` meets its contract.
 use borrow.Author.Needs.{needs}
 use borrow.Rule.Slice.PartMut.{mid-len}
 use Prim.Native.Nat.{_-_}

@@ -1,4 +1,3 @@
--- `words::message_of` meets its contract.
 use borrow.Author.Needs.{needs}
 use Rattle.words.proofs.message_of.Statement.{statement}
 use Rattle.words.proofs.message_of.Tie as tie

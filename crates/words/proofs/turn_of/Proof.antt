@@ -1,4 +1,3 @@
--- `words::turn_of` meets its contract.
 use Rattle.words.proofs.turn_of.Statement.{statement}
 use Rattle.words.proofs.turn_of.Tie as tie
 use Rattle.words.proofs.Running.{fails, ends, counts, casts, carries}
