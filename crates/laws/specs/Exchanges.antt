@@ -17,9 +17,9 @@ pub record Exchanges : Type 0 where
   -- what is due to a call that asks whether the bytes are accepted
   pub accepted : (s : List ℕ) → Bytes s → (acceptance s ≡ result []) ↔ Accepted s
   -- the bundle is accepted with its names exchanged
-  pub taken : (s : List ℕ) → Bytes s → Accepted s → (f : Exchange) → Accepted (mapBytes body (f .to) s)
+  pub taken : (s : List ℕ) → Accepted s → (f : Exchange) → Accepted (mapBytes body (f .to) s)
   -- and its report has the names exchanged
-  pub reported : (s : List ℕ) → Bytes s → (a : Accepted s) (f : Exchange)
+  pub reported : (s : List ℕ) (a : Accepted s) (f : Exchange)
       → reporting (mapBytes body (f .to) s) ≡ result (bytes (mapNames (f .to) (reportItems (violations (a .tree)))))
   -- two bundles are renumbered to one exactly where some exchange that sends 0 to 0 turns one into the other
-  pub alike : (s t : List ℕ) → Bytes s → Bytes t → Accepted s → Accepted t → (renumbering s ≡ renumbering t) ↔ Alike (mapBytes body) s t
+  pub alike : (s t : List ℕ) → Accepted s → Accepted t → (renumbering s ≡ renumbering t) ↔ Alike (mapBytes body) s t
