@@ -1,10 +1,15 @@
 -- The statements hold, by the laws of the meaning.
+use Prim.Native.Nat.{ℕ}
 use mathlib.Core.Path.{sym}
+use mathlib.Core.List.{List}
+use Rattle.meaning.specs.Encoding.{Bytes}
+use Rattle.meaning.specs.Calls.{Accepted}
 use Rattle.meaning.proofs.Acceptance.{accepted-iff}
 use Rattle.meaning.proofs.Equations as equations
 use Rattle.meaning.proofs.Mapped.{bundle-names, bundle-mapped}
 use Rattle.meaning.proofs.Equivariance.{violations-exchange, reportItems-map}
 use Rattle.meaning.proofs.RenumberingLaws.{renumbered-alike, exchanged-accepted, exchanged-report}
+use Rattle.refusals.proofs.Encoded.{bundle-bytes}
 use Rattle.laws.specs.Equations.{SizeEquations, JaggedEquations}
 use Rattle.laws.specs.Exchanges.{Named, Exchanges}
 
@@ -42,11 +47,14 @@ in-the-tree = record {
   reported = λ f vs. sym (reportItems-map f vs);
 }
 
+accepted-bytes : {s : List ℕ} → Accepted s → Bytes s
+accepted-bytes a = bundle-bytes (record { layout = a .encoded; limits = a .within })
+
 pub exchanged : Exchanges
 exchanged = record {
   accepted = accepted-iff;
   found = λ b ok f. violations-exchange f b ok;
-  taken = λ s p a f. exchanged-accepted p a f;
-  reported = λ s p a f. exchanged-report p a f;
-  alike = λ s t p q a b. renumbered-alike p q a b;
+  taken = λ s a f. exchanged-accepted (accepted-bytes a) a f;
+  reported = λ s a f. exchanged-report (accepted-bytes a) a f;
+  alike = λ s t a b. renumbered-alike (accepted-bytes a) (accepted-bytes b) a b;
 }

@@ -30,9 +30,9 @@ pub record Exchanges : Type 0 where
   -- the violations of a bundle with its names exchanged are its violations with their names exchanged
   pub found : (b : Bundle) → Names (bundleNames b) → (f : Exchange) → violations (mapBundle (f .to) b) ≡ map (mapViolation (f .to)) (violations b)
   -- the bundle is accepted with its names exchanged
-  pub taken : (s : List ℕ) → Bytes s → Accepted s → (f : Exchange) → Accepted (mapBytes body (f .to) s)
+  pub taken : (s : List ℕ) → Accepted s → (f : Exchange) → Accepted (mapBytes body (f .to) s)
   -- and its report has the names exchanged
-  pub reported : (s : List ℕ) → Bytes s → (a : Accepted s) (f : Exchange)
+  pub reported : (s : List ℕ) (a : Accepted s) (f : Exchange)
       → reporting (mapBytes body (f .to) s) ≡ result (bytes (mapNames (f .to) (reportItems (violations (a .tree)))))
   -- two bundles are renumbered to one exactly where some exchange that sends 0 to 0 turns one into the other
-  pub alike : (s t : List ℕ) → Bytes s → Bytes t → Accepted s → Accepted t → (renumbering s ≡ renumbering t) ↔ Alike (mapBytes body) s t
+  pub alike : (s t : List ℕ) → Accepted s → Accepted t → (renumbering s ≡ renumbering t) ↔ Alike (mapBytes body) s t
