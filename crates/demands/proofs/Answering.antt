@@ -36,7 +36,7 @@ given-call xs before after a c h =
     let same : filled .due ≡ xs = let p = filled .outcome in cc in
     record { answer = e; first = filled .first ∙ same; others = filled .others }
 
-pub refused-call : (o : Outcome) (k : ℕ) (before after : List ℕ) (a : Answer) → Call o before after a → answerOf o (length before) ≡ refusedWith k → Refused k before after a
+refused-call : (o : Outcome) (k : ℕ) (before after : List ℕ) (a : Answer) → Call o before after a → answerOf o (length before) ≡ refusedWith k → Refused k before after a
 refused-call o k before after a c e =
     let q : a ≡ refusedWith k = c .answer ∙ e in
     record { answer = q; all = call-refused o k before after (subst (λ a. Call o before after a) q c) }

@@ -1,4 +1,4 @@
--- `layout_c::code` meets its contract. Assumes nothing.
+-- `layout_c::code` meets its contract.
 use borrow.Author.Needs.{needs}
 use Rattle.layout_c.proofs.code.Statement.{statement}
 use Rattle.layout_c.proofs.code.Tie as tie

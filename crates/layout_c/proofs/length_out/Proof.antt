@@ -1,4 +1,4 @@
--- `layout_c::length_out` meets its contract. Assumes nothing.
+-- `layout_c::length_out` meets its contract.
 use borrow.Author.Needs.{needs}
 use Rattle.layout_c.proofs.length_out.Statement.{statement}
 use Rattle.layout_c.proofs.length_out.Tie as tie
