@@ -36,7 +36,7 @@ given-call xs before after a c h =
     let same : filled .due ≡ xs = let p = filled .outcome in cc in
     record { answer = e; first = filled .first ∙ same; others = filled .others }
 
-pub refused-call : (o : Outcome) (k : ℕ) (before after : List ℕ) (a : Answer) → Call o before after a → answerOf o (length before) ≡ refusedWith k → Refused k before after a
+refused-call : (o : Outcome) (k : ℕ) (before after : List ℕ) (a : Answer) → Call o before after a → answerOf o (length before) ≡ refusedWith k → Refused k before after a
 refused-call o k before after a c e =
     let q : a ≡ refusedWith k = c .answer ∙ e in
     record { answer = q; all = call-refused o k before after (subst (λ a. Call o before after a) q c) }
@@ -67,7 +67,7 @@ module _ (f : Bundle → List ℕ) where
       go (ok b n) h e = circle b (circles b) e
       go (refused j) h e = let z : j ≡ k = cc in (omega arith, omega arith)
 
-module _ (Due : Bundle → List ℕ → Type 0) (f : Bundle → List ℕ) (due : (b : Bundle) → BundleOk b → Due b (f b)) where
+module _ (Result : Bundle → List ℕ → Type 0) (f : Bundle → List ℕ) (due : (b : Bundle) → BundleOk b → Result b (f b)) where
   -- what is due for bytes that are not accepted: the one number
   due-refused : (s : List ℕ) → Bytes s → (Accepted s → ⊥) → onBundle (λ b. result (f b)) s ≡ refusal (numberOf s)
   unfolding onBundle dueOf
@@ -81,7 +81,7 @@ module _ (Due : Bundle → List ℕ → Type 0) (f : Bundle → List ℕ) (due :
       go (ok b n) r = circle b n r (circles b) refl
       go (refused k) r = refl
 
-  pub demand-1 : (s before after : List ℕ) (a : Answer) → Bytes s → Call (onBundle (λ b. result (f b)) s) before after a → Demand1 Due s before after a
+  pub demand-1 : (s before after : List ℕ) (a : Answer) → Bytes s → Call (onBundle (λ b. result (f b)) s) before after a → Demand1 Result s before after a
   unfolding answerOf kept-accepted
   demand-1 s before after a bytes c = record {
     every = λ b k. (f b, due b (k .bundle .limits), gets-call (onBundle (λ b. result (f b)) s) (f b) before after a (kept-due b k) c);

@@ -16,9 +16,10 @@ use Rattle.meaning.specs.Report.{reportItems}
 use Rattle.meaning.specs.Calls.{Answer, accepted, refusedWith, Call}
 use Rattle.meaning.specs.Due.{reporting, renumbering}
 use Rattle.refusals.specs.Numbers.{Keeps}
-use Rattle.demands.specs.Demands.{Gets, Demand1, numberingOf, RenumberedOf, Demand3Alike, Demand3Report}
+use Rattle.refusals.proofs.Encoded.{bundle-bytes}
+use Rattle.demands.specs.Demands.{Gets, Demand1, ReportOf, numberingOf, RenumberedOf, Demand3Alike, Demand3Report}
 use Rattle.demands.proofs.Canonical.{equal-results, keeps-too, report-too}
-use Rattle.demands.proofs.Answering.{gets-call, renumber-demand}
+use Rattle.demands.proofs.Answering.{gets-call, report-demand, renumber-demand}
 
 no-answer : {A : Type 0} {n k : ℕ} → accepted n ≡ refusedWith k → A
 no-answer e = let z : _≡_ {A = ℕ} 0 1 = cc in absurd (omega arith)
@@ -74,14 +75,15 @@ pub reported-demand : (s u u′ v v′ : List ℕ) (n : ℕ) (b : Answer) → By
     → Demand3Report s u u′ (accepted n) v v′ b
 reported-demand s u u′ v v′ n b p y z =
     let d = renumber-demand s u u′ (accepted n) p y in
+    let c = keeps s u u′ n d in
+    let x = d .every (c .0) (c .1) in
+    let i = has (x .0) u u′ n (x .2) in
+    let t = keeps-too (c .1) (x .0) (x .1) in
+    let k : Keeps (take n u′) (t .0) = subst (λ s. Keeps s (t .0)) (sym (i .first)) (t .1) in
     record {
       renumbered = d;
-      keeps-too = λ m e.
-          let c = keeps s u u′ n d in
-          let x = d .every (c .0) (c .1) in
-          let i = has (x .0) u u′ n (x .2) in
-          let t = keeps-too (c .1) (x .0) (x .1) in
-          (t .0, subst (λ s. Keeps s (t .0)) (sym (i .first) ∙ ap (λ n. take n u′) (same-size e)) (t .1));
+      reported = λ m e. subst (λ m. Demand1 ReportOf (take m u′) v v′ b) (same-size e) (report-demand (take n u′) v v′ b (bundle-bytes (k .bundle)) z);
+      keeps-too = λ m e. (t .0, subst (λ m. Keeps (take m u′) (t .0)) (same-size e) k);
       report = λ c k m e.
           let x = d .every c k in
           let i = has (x .0) u u′ n (x .2) in
@@ -94,6 +96,7 @@ reported-demand s u u′ v v′ n b p y z =
 pub refused-demand : (s u u′ v : List ℕ) (k : ℕ) → Bytes s → Call (renumbering s) u u′ (refusedWith k) → Demand3Report s u u′ (refusedWith k) v v (refusedWith k)
 refused-demand s u u′ v k p c = record {
   renumbered = renumber-demand s u u′ (refusedWith k) p c;
+  reported = λ m e. no-answer (sym e);
   keeps-too = λ m e. no-answer (sym e);
   report = λ t h m e. no-answer (sym e);
   none = λ j e. record { answer = e; all = refl };

@@ -41,6 +41,10 @@ one-kept =
     kept (one u8)
     (record { definitions = (omega arith, ((omega arith, (omega arith, omega arith), omega arith), tt)); edges = (omega arith, tt); current = omega arith; size = omega arith }) refl
 
+sample-kept : Keeps (bundleBytes sampleTree) sampleTree
+unfolding bundleBytes bundleItems numberItems definitionItems typeItems exprItems circles settled leadsTo
+sample-kept = kept sampleTree (record { definitions = (omega arith, (?, tt)); edges = (omega arith, tt); current = omega arith; size = omega arith }) refl
+
 turned : ((s : List ℕ) → (k : ℕ) × Demand1 Nothing s [] [] (refusedWith k)) → ⊥
 turned h =
     let d = h (bundleBytes (bare 0)) in
@@ -48,10 +52,16 @@ turned h =
     let e = g .2 .full (omega (arith, ap length (g .1))) .answer in
     let z : _≡_ {A = ℕ} 0 1 = cc in omega arith
 
-silent : ((from to : ℕ) (b : Bundle) → ChainOf from to b []) → ⊥
-silent h = go (h 5 5 (edges []))
+counted : (n : ℕ) → Demand1 Nothing (0x60 ∷ 1 ∷ 0 ∷ 0 ∷ 0 ∷ 0 ∷ 0 ∷ []) [] [] (accepted n) → ⊥
+counted n d = let e = d .other (λ b k. unread b k) .2 .answer in let z : _≡_ {A = ℕ} 0 1 = cc in omega arith
   where
-    go : ((Reaches (graph (edges [])) 5 5 → ⊥) × (_≡_ {A = List ℕ} [] [])) ⊎ FirstPath (edges []) 5 5 [] → ⊥
+    unread : (b : Bundle) → Keeps (0x60 ∷ 1 ∷ 0 ∷ 0 ∷ 0 ∷ 0 ∷ 0 ∷ []) b → ⊥
+    unread b k = ?
+
+silent : ((from to : ℕ) (s : List ℕ) (b : Bundle) → Keeps s b → ChainOf from to b []) → ⊥
+silent h = go (h 5 5 (bundleBytes (bare 0)) (bare 0) (bare-kept 0 (omega arith)))
+  where
+    go : ((Reaches (graph (bare 0)) 5 5 → ⊥) × (_≡_ {A = List ℕ} [] [])) ⊎ FirstPath (bare 0) 5 5 [] → ⊥
     go (inl p) = p .0 Reaches.here
     go (inr p) = let e = ap length (p .on) in omega (arith, e)
 
@@ -75,7 +85,8 @@ pub idle : Idle
 unfolding report
 idle = record {
   all-turned-down = turned;
-  empty-report = λ h. let z : _≡_ {A = ℕ} 0 1 = ap (λ s. getD s 1 0) (h sampleTree ∙ jagged-report) in omega (arith, z);
+  count-unlike = counted;
+  empty-report = λ h. let z : _≡_ {A = ℕ} 0 1 = ap (λ s. getD s 1 0) (h (bundleBytes sampleTree) sampleTree sample-kept ∙ jagged-report) in omega (arith, z);
   no-chain = silent;
   copy = copied;
   one-for-all = fixed;

@@ -43,9 +43,9 @@ pub record Cases (s : List ℕ) : Type 0 where
 
 -- Every bundle that keeps the layout, with references that never circle, is accepted and its call gets the result; every other call is
 -- refused with the one number (`Number`, the refusals' Numbers.antt). No call is refused with another number than 1 to 9.
--- `Due b xs`: xs is the result for the bundle b.
-pub record Demand1 (Due : Bundle → List ℕ → Type 0) (s before after : List ℕ) (a : Answer) : Type 0 where
-  pub every : (b : Bundle) → Keeps s b → (xs : List ℕ) × Due b xs × Gets xs before after a
+-- `Result b xs`: xs is the result for the bundle b.
+pub record Demand1 (Result : Bundle → List ℕ → Type 0) (s before after : List ℕ) (a : Answer) : Type 0 where
+  pub every : (b : Bundle) → Keeps s b → (xs : List ℕ) × Result b xs × Gets xs before after a
   pub other : ((b : Bundle) → Keeps s b → ⊥) → (k : ℕ) × Number s k × Refused k before after a
   pub cases : Cases s
   pub numbered : (k : ℕ) → a ≡ refusedWith k → (1 ≤ k) × (k ≤ 9)
@@ -104,6 +104,7 @@ pub record Demand3Alike (s t : List ℕ) (u u′ : List ℕ) (a : Answer) (v v�
 -- report is the original's with each name put through the numbering, and all else as it was. A refused bundle has no such report.
 pub record Demand3Report (s u u′ : List ℕ) (a : Answer) (v v′ : List ℕ) (b : Answer) : Type 0 where
   pub renumbered : Demand1 RenumberedOf s u u′ a
+  pub reported : (n : ℕ) → a ≡ accepted n → Demand1 ReportOf (take n u′) v v′ b
   pub keeps-too : (n : ℕ) → a ≡ accepted n → (c : Bundle) × Keeps (take n u′) c
   pub report : (c : Bundle) → Keeps s c → (n : ℕ) → a ≡ accepted n → Gets (bytes (mapNames (numberingOf c) (reportItems (violations c)))) v v′ b
   pub none : (k : ℕ) → a ≡ refusedWith k → Refused k v v′ b
