@@ -1,37 +1,30 @@
--- Decimal texts and what they say, computed.
+-- What decimal texts say, by the laws and by computation.
 use Prim.Native.Nat.{ℕ}
 use native.Mathlib.Omega.{arith}
 use mathlib.Core.List.{[], _∷_}
 use mathlib.Core.Path.{_≡_, refl}
 use Rattle.decimal.specs.Decimal.{digitsOf, decimal, lines, valueFrom, Says}
+use Rattle.decimal.specs.Texts.{Texts}
+use Rattle.decimal.proofs.Back.{decimal-says, no-leading-zero}
 
--- 0, 9, 10, 65535
-zero-text : decimal 0 ≡ 48 ∷ []
-unfolding decimal digitsOf
-zero-text = refl
+seven : (n : ℕ) → Says (48 ∷ 48 ∷ 55 ∷ []) n → n ≡ 7
+unfolding valueFrom
+seven n s = omega (arith, s .value)
 
-nine-text : decimal 9 ≡ 57 ∷ []
-unfolding decimal digitsOf
-nine-text = refl
+too-large : (n : ℕ) → Says (54 ∷ 53 ∷ 53 ∷ 51 ∷ 54 ∷ []) n → ⊥
+unfolding valueFrom
+too-large n s = omega (arith, s .value, s .small)
 
-ten-text : decimal 10 ≡ 49 ∷ 48 ∷ []
-unfolding decimal digitsOf
-ten-text = refl
-
-greatest-text : decimal 65535 ≡ 54 ∷ 53 ∷ 53 ∷ 51 ∷ 53 ∷ []
-unfolding decimal digitsOf
-greatest-text = refl
-
--- "7", "0" and "300" on lines
-lines-text : lines (7 ∷ 0 ∷ 300 ∷ []) ≡ 55 ∷ 10 ∷ 48 ∷ 10 ∷ 51 ∷ 48 ∷ 48 ∷ 10 ∷ []
+pub computed : Texts
 unfolding lines decimal digitsOf
-lines-text = refl
-
--- "007" says 7, and "65536" says no name
-seven-said : valueFrom 0 (48 ∷ 48 ∷ 55 ∷ []) ≡ 7
-unfolding valueFrom
-seven-said = refl
-
-too-large-said : (n : ℕ) → Says (54 ∷ 53 ∷ 53 ∷ 51 ∷ 54 ∷ []) n → ⊥
-unfolding valueFrom
-too-large-said n s = omega (arith, s .value, s .small)
+computed = record {
+  says = decimal-says;
+  no-leading-zero = no-leading-zero;
+  zero = refl;
+  nine = refl;
+  ten = refl;
+  greatest = refl;
+  on-lines = refl;
+  leading-zeros = seven;
+  too-large = too-large;
+}

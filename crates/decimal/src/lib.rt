@@ -4,6 +4,7 @@ ghost use Prim.Native.Nat.{_+_, _*_, _≤_, _<_};
 ghost use lib.ListN.{length, take};
 ghost use Rattle.decimal.specs.Decimal.{decimal, lines, Writes};
 ghost use Rattle.decimal.specs.Parsing.{IsParsed};
+ghost use Rattle.decimal.specs.Texts.{Texts};
 
 // What a word says.
 pub enum Parsed {
@@ -81,3 +82,8 @@ pub fn parse_name(word: &[u8]) -> Parsed
     let name = value as u16;
     Parsed::Name(name)
 }
+
+// The text of a name says the name, without a leading zero.
+pub fn texts()
+    ensures { λ r. ⌜ Texts ⌝ }
+{}

@@ -3,22 +3,26 @@ use Prim.Native.Nat.{ℕ, _<_}
 use native.Mathlib.Omega.{arith}
 use mathlib.Core.Bool.{false}
 use mathlib.Core.Logic.{_⊎_, inl, inr}
-use mathlib.Core.Path.{_≡_, refl, ap, _∙_}
-use mathlib.Core.List.{List, []}
+use mathlib.Core.Path.{_≡_, refl, sym, ap, _∙_}
+use mathlib.Core.List.{List, [], _∷_}
 use lib.ListN.{length, getD}
 use Rattle.names.specs.Names.{nameCount}
 use Rattle.names.proofs.Swap.{exchange, swapping}
 use Rattle.meaning.specs.Tree.{Bundle}
-use Rattle.meaning.specs.Encoding.{numberItems, typeItems, definitionItems, bundleItems, bundleBytes}
+use Rattle.meaning.specs.Encoding.{numberItems, exprItems, headItems, typeItems, definitionItems, bundleItems, bundleBytes}
 use Rattle.meaning.specs.Within.{BundleOk}
 use Rattle.meaning.specs.Chain.{Reaches}
 use Rattle.meaning.specs.Circle.{leadsTo, settled, circles}
 use Rattle.meaning.specs.Violations.{graph}
 use Rattle.meaning.specs.Report.{report}
-use Rattle.meaning.specs.Calls.{refusedWith}
+use Rattle.meaning.specs.Calls.{accepted, refusedWith}
 use Rattle.meaning.specs.Small.{edges, one, u8, sampleTree}
 use Rattle.meaning.proofs.Examples.{jagged-report}
+use Rattle.meaning.specs.Kinds.{lookup}
+use Rattle.meaning.specs.Reader.{ok, refused, due, little, many}
+use Rattle.meaning.specs.ReadBundle.{recordBody, opening, readDefinition, readHeader, readRest, readRecords, readBundle}
 use Rattle.refusals.specs.Numbers.{Keeps}
+use Rattle.refusals.proofs.Circles.{read-bundle}
 use Rattle.demands.specs.Demands.{Demand1, Nothing, FirstPath, ChainOf, AlikeBundles}
 use Rattle.demands.specs.Idle.{Canonical, Idle}
 use Rattle.demands.proofs.Kept.{accepted-kept}
@@ -42,8 +46,8 @@ one-kept =
     (record { definitions = (omega arith, ((omega arith, (omega arith, omega arith), omega arith), tt)); edges = (omega arith, tt); current = omega arith; size = omega arith }) refl
 
 sample-kept : Keeps (bundleBytes sampleTree) sampleTree
-unfolding bundleBytes bundleItems numberItems definitionItems typeItems exprItems circles settled leadsTo
-sample-kept = kept sampleTree (record { definitions = (omega arith, (?, tt)); edges = (omega arith, tt); current = omega arith; size = omega arith }) refl
+unfolding bundleBytes bundleItems numberItems definitionItems typeItems headItems exprItems circles settled leadsTo
+sample-kept = kept sampleTree (record { definitions = (omega arith, ((omega arith, ((omega arith, omega arith), omega arith, ((omega arith, omega arith), omega arith), (omega arith, omega arith)), omega arith), tt)); edges = (omega arith, tt); current = omega arith; size = omega arith }) refl
 
 turned : ((s : List ℕ) → (k : ℕ) × Demand1 Nothing s [] [] (refusedWith k)) → ⊥
 turned h =
@@ -52,11 +56,19 @@ turned h =
     let e = g .2 .full (omega (arith, ap length (g .1))) .answer in
     let z : _≡_ {A = ℕ} 0 1 = cc in omega arith
 
-counted : (n : ℕ) → Demand1 Nothing (0x60 ∷ 1 ∷ 0 ∷ 0 ∷ 0 ∷ 0 ∷ 0 ∷ []) [] [] (accepted n) → ⊥
-counted n d = let e = d .other (λ b k. unread b k) .2 .answer in let z : _≡_ {A = ℕ} 0 1 = cc in omega arith
+-- a header that counts one definition, and the end
+cut : readBundle (0x60 ∷ 1 ∷ 0 ∷ 0 ∷ 0 ∷ 0 ∷ 0 ∷ []) ≡ refused 2
+unfolding readBundle readRecords readHeader opening recordBody due little many readDefinition readRest lookup
+cut = refl
+
+short : (b : Bundle) → Keeps (0x60 ∷ 1 ∷ 0 ∷ 0 ∷ 0 ∷ 0 ∷ 0 ∷ []) b → ⊥
+short b k = none b _ (sym cut ∙ read-bundle _ b (k .bundle))
   where
-    unread : (b : Bundle) → Keeps (0x60 ∷ 1 ∷ 0 ∷ 0 ∷ 0 ∷ 0 ∷ 0 ∷ []) b → ⊥
-    unread b k = ?
+    none : (b : Bundle) (n : ℕ) → refused 2 ≡ ok b n → ⊥
+    none b n e = let z : _≡_ {A = ℕ} 0 1 = cc in omega arith
+
+counted : (n : ℕ) → Demand1 Nothing (0x60 ∷ 1 ∷ 0 ∷ 0 ∷ 0 ∷ 0 ∷ 0 ∷ []) [] [] (accepted n) → ⊥
+counted n d = let e = d .other short .2 .answer in let z : _≡_ {A = ℕ} 0 1 = cc in omega arith
 
 silent : ((from to : ℕ) (s : List ℕ) (b : Bundle) → Keeps s b → ChainOf from to b []) → ⊥
 silent h = go (h 5 5 (bundleBytes (bare 0)) (bare 0) (bare-kept 0 (omega arith)))

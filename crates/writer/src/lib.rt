@@ -20,6 +20,7 @@ ghost use Rattle.bundle.specs.View.{exprFormMeant, typeFormMeant};
 ghost use Rattle.writer.specs.declared.Shaped.the-variants.{Body};
 ghost use Rattle.writer.specs.Shapes.{partOf, noPart, shapedOf, isWidth, isCount, sound, shapeFields, sizeOf};
 ghost use Rattle.writer.specs.Places.{CallFrom};
+ghost use Rattle.writer.specs.Stored.{Stored};
 
 const DEFINITION_LIMIT: u64 = bundle::DEFINITION_LIMIT as u64;
 
@@ -275,3 +276,8 @@ pub fn write_record(out: &mut [u8], at: usize, kind: u8, a: u64, b: u64, c: u64,
         Shaped::None => Answer::Refused(3),
     }
 }
+
+// A bundle whose records are written one by one is read back.
+pub fn bundle_stored()
+    ensures { λ r. ⌜ Stored ⌝ }
+{}
