@@ -10,6 +10,15 @@ ghost use Rattle.chain.specs.Members.{Members, PlaceOf, grown, Pushed, E
 ghost use Rattle.chain.specs.Index.{Numbering, numbered, Linked, Indexed, HasEnds, EndsBelow, Room, Prepared, Workspace};
 ghost use Rattle.chain.specs.Queue.{Holds, Added, Searching, AfterFollow, AfterSearch, MembersAfter, MembersLeft};
 
+// Few edges: lists for so many of them, and a table for the names below `FEW_NAMES`.
+pub const FEW_EDGES: usize = 64;
+
+pub const FEW_ENDS: usize = 2 * FEW_EDGES;
+
+pub const FEW_CHAIN: usize = FEW_EDGES + 1;
+
+pub const FEW_NAMES: usize = 256;
+
 // The answer to a search.
 pub enum Found {
     // There is no chain.

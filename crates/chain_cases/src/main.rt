@@ -81,7 +81,7 @@ fn tell(answer: bundle::Answer, list: &[u16]) {
 fn look(s: &[u8], end: usize, from: u16, to: u16, list: &mut [u16], size: usize)
     requires { ⌜ (end ≤ length (now s)) × (size ≤ length (now list)) ⌝ }
 {
-    let answer = search::find_layout_dependency_chain(&s[..end], from, to, &mut list[..size]);
+    let answer = find_chain::find_layout_dependency_chain(&s[..end], from, to, &mut list[..size]);
     tell(answer, list);
 }
 

@@ -29,7 +29,7 @@ pub fn renumber(bundle: &[u8], out: &mut [u8]) -> Answer
 pub fn find_layout_dependency_chain(bundle: &[u8], from: u16, to: u16, list: &mut [u16]) -> Answer
     ensures { λ r. ⌜ Demand1 (ChainOf from to) (now (bundle .entry)) (now (list .entry)) (now (list .exit)) (answerMeant r) ⌝ }
 {
-    search::find_layout_dependency_chain(bundle, from, to, list)
+    find_chain::find_layout_dependency_chain(bundle, from, to, list)
 }
 
 // The answers of two calls.

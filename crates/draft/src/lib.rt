@@ -59,7 +59,7 @@ fn write_report(
 {
     let start = Position { at: 3, count: 0 };
     let mut draft = [0u8; DRAFT];
-    let counted = validators::validate_layout_constraints(
+    let counted = pass::validate_layout_constraints(
         s,
         places,
         layout,
@@ -87,7 +87,7 @@ fn write_report(
         copy_records(&draft, counted.at, out);
         return Answer::Accepted(counted.at);
     }
-    let written = validators::validate_layout_constraints(
+    let written = pass::validate_layout_constraints(
         s,
         places,
         layout,

@@ -67,7 +67,7 @@ fn respond_chain(bundle: &[u8], from: u16, to: u16, out: &mut [u8]) -> usize
     ensures { λ r. ⌜ Holds (linesTo (chaining from to (now (bundle .entry)))) (now (out .exit)) r ⌝ }
 {
     let mut list = [0u16; bundle::CHAIN_LIMIT];
-    let answer = search::find_layout_dependency_chain(bundle, from, to, &mut list);
+    let answer = find_chain::find_layout_dependency_chain(bundle, from, to, &mut list);
     match answer {
         Answer::Accepted(n) => decimal::write_names(&list, n, out),
         Answer::Refused(k) => put_refusal(k, out),

@@ -65,7 +65,7 @@ pub extern "C" fn layout_chain(
 ) -> u8
     ensures { λ r. ⌜ CallInC (chaining from to (now (bundle .entry))) (now (list .entry)) (now (list .exit)) (now (written .entry)) (now (written .exit)) r ⌝ }
 {
-    let answer = search::find_layout_dependency_chain(bundle, from, to, list);
+    let answer = find_chain::find_layout_dependency_chain(bundle, from, to, list);
     *written = length_out(answer, *written);
     code(answer)
 }

@@ -18,14 +18,14 @@ fn report_few(s: &[u8], places: &[u16], layout: Layout, out: &mut [u8]) -> Answe
     requires { ⌜ LayoutOf (now s) layout (now places) × (circles (bundleOf (now s)) ≡ false) ⌝ }
     ensures { λ r. ⌜ Call (result (report (bundleOf (now (s .entry))))) (now (out .entry)) (now (out .exit)) (answerMeant r) ⌝ }
 {
-    let mut names = [0u16; search::FEW_ENDS];
-    let mut table = [0u16; search::FEW_NAMES];
-    let mut ends = [0u16; search::FEW_ENDS];
-    let mut first = [0u16; search::FEW_ENDS];
-    let mut links = [0u16; search::FEW_EDGES];
-    let mut queue = [0u16; search::FEW_CHAIN];
-    let mut parents = [0u16; search::FEW_CHAIN];
-    let mut marks = [0u16; search::FEW_ENDS];
+    let mut names = [0u16; chain::FEW_ENDS];
+    let mut table = [0u16; chain::FEW_NAMES];
+    let mut ends = [0u16; chain::FEW_ENDS];
+    let mut first = [0u16; chain::FEW_ENDS];
+    let mut links = [0u16; chain::FEW_EDGES];
+    let mut queue = [0u16; chain::FEW_CHAIN];
+    let mut parents = [0u16; chain::FEW_CHAIN];
+    let mut marks = [0u16; chain::FEW_ENDS];
     draft::report_with(
         s,
         places,
@@ -96,7 +96,7 @@ pub fn report(bundle: &[u8], out: &mut [u8]) -> Answer
     let opening = acceptance::open(bundle, &mut places);
     match opening {
         Opening::Opened(layout) => {
-            if layout.edges <= search::FEW_EDGES {
+            if layout.edges <= chain::FEW_EDGES {
                 report_few(bundle, &places, layout, out)
             } else {
                 report_long(bundle, out)

@@ -1,6 +1,6 @@
 use borrow.Author.Needs.{needs}
-use Rattle.validators.proofs.validate_type.Statement.{statement}
-use Rattle.validators.proofs.validate_type.Tie as tie
+use Rattle.pass.proofs.validate_type.Statement.{statement}
+use Rattle.pass.proofs.validate_type.Tie as tie
 use native.Mathlib.Omega.{arith}
 use Rattle.fields.proofs.ShapeLaws.{shape-struct}
 use Rattle.fields.proofs.Walking.{placed-reads}

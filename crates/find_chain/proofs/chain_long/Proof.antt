@@ -1,4 +1,4 @@
--- `search::chain_long` meets its contract: what the bytes are refused for, or what was found for the bundle that they are.
+-- `find_chain::chain_long` meets its contract: what the bytes are refused for, or what was found for the bundle that they are.
 use Prim.Native.Nat.{ℕ}
 use native.Mathlib.Omega.{arith}
 use lib.ListN.{length-replicate}
@@ -6,8 +6,8 @@ use borrow.Author.Needs.{needs}
 use Rattle.meaning.specs.Due.{chaining}
 use Rattle.bundle.proofs.AnswerLaws.{opened-layout, opened-refused}
 use Rattle.chain.proofs.Called.{called, turned-down, has-edges}
-use Rattle.search.proofs.chain_long.Statement.{statement}
-use Rattle.search.proofs.chain_long.Tie as tie
+use Rattle.find_chain.proofs.chain_long.Statement.{statement}
+use Rattle.find_chain.proofs.chain_long.Tie as tie
 
 slice-aggregate-open : tie.Need-slice-aggregate-open
 slice-aggregate-open c = search needs

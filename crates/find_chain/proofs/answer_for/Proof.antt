@@ -1,8 +1,8 @@
 use Rattle.chain.proofs.Called.{answers-none, answers-fits, answers-long}
 use native.Mathlib.Omega.{arith}
 use borrow.Author.Needs.{needs}
-use Rattle.search.proofs.answer_for.Statement.{statement}
-use Rattle.search.proofs.answer_for.Tie as tie
+use Rattle.find_chain.proofs.answer_for.Statement.{statement}
+use Rattle.find_chain.proofs.answer_for.Tie as tie
 
 enum-told : tie.Need-enum-told
 enum-told c = search needs

@@ -1,4 +1,4 @@
--- `search::find_layout_dependency_chain` meets its contract: that of `chain_long`, or as there with short lists.
+-- `find_chain::find_layout_dependency_chain` meets its contract: that of `chain_long`, or as there with short lists.
 use Prim.Native.Nat.{ℕ}
 use native.Mathlib.Omega.{arith}
 use lib.ListN.{length-replicate}
@@ -6,8 +6,8 @@ use borrow.Author.Needs.{needs}
 use Rattle.meaning.specs.Due.{chaining}
 use Rattle.bundle.proofs.AnswerLaws.{opened-layout, opened-refused}
 use Rattle.chain.proofs.Called.{called, turned-down, has-edges}
-use Rattle.search.proofs.find_layout_dependency_chain.Statement.{statement}
-use Rattle.search.proofs.find_layout_dependency_chain.Tie as tie
+use Rattle.find_chain.proofs.find_layout_dependency_chain.Statement.{statement}
+use Rattle.find_chain.proofs.find_layout_dependency_chain.Tie as tie
 
 chain-long-requires : tie.Need-chain-long-requires
 chain-long-requires c κs = search needs

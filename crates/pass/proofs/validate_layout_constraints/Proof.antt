@@ -1,6 +1,6 @@
--- `validators::validate_layout_constraints` meets its contract: the invariant is that of `Validators`.
-use Rattle.validators.proofs.validate_layout_constraints.Statement.{statement}
-use Rattle.validators.proofs.validate_layout_constraints.Tie as tie
+-- `pass::validate_layout_constraints` meets its contract: the invariant is that of `Validators`.
+use Rattle.pass.proofs.validate_layout_constraints.Statement.{statement}
+use Rattle.pass.proofs.validate_layout_constraints.Tie as tie
 use borrow.Author.Needs.{needs}
 use Prim.Native.Nat.{_-_}
 use native.Mathlib.Omega.{arith}

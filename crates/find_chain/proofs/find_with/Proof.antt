@@ -1,8 +1,8 @@
 use borrow.Author.Needs.{needs}
 use native.Mathlib.Omega.{arith}
 use Rattle.chain.proofs.Members.{members-none}
-use Rattle.search.proofs.find_with.Statement.{statement}
-use Rattle.search.proofs.find_with.Tie as tie
+use Rattle.find_chain.proofs.find_with.Statement.{statement}
+use Rattle.find_chain.proofs.find_with.Tie as tie
 
 prepare-requires : tie.Need-prepare-requires
 prepare-requires c κs = search needs
