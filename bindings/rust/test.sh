@@ -12,14 +12,14 @@ library=${1:-tools/bench/target/liblayout_c.a}
 target=bindings/rust/target
 mkdir -p "$target"
 
-linked="-C link-arg=$library"
+set -- -C "link-arg=$library"
 for flag in ${LINK_FLAGS:-}; do
-  linked="$linked -C link-arg=$flag"
+  set -- "$@" -C "link-arg=$flag"
 done
 rustc --edition 2021 --crate-type rlib --crate-name layout --out-dir "$target" \
   bindings/rust/src/lib.rs
 rustc --edition 2021 --test --crate-name calls --extern layout="$target/liblayout.rlib" \
-  $linked -o "$target/calls" bindings/rust/tests/calls.rs
+  "$@" -o "$target/calls" bindings/rust/tests/calls.rs
 "$target/calls" --quiet --test-threads 1
 
 # The header alone, in each C and C++ that it is for.

@@ -11,9 +11,9 @@ library=${1:-tools/bench/target/liblayout_c.a}
 target=tools/layout-text/target
 mkdir -p "$target"
 
-linked="-C link-arg=$library"
+set -- -C "link-arg=$library"
 for flag in ${LINK_FLAGS:-}; do
-  linked="$linked -C link-arg=$flag"
+  set -- "$@" -C "link-arg=$flag"
 done
 compile() {
   rustc --edition 2021 -C opt-level=1 -L "$target" "$@"
@@ -23,4 +23,4 @@ compile --crate-type rlib --crate-name layout --out-dir "$target" \
 compile --crate-type rlib --crate-name layout_text --extern layout --out-dir "$target" \
   tools/layout-text/src/lib.rs
 compile --crate-type bin --crate-name layout_text_program --extern layout --extern layout_text \
-  $linked -o "$target/layout-text" tools/layout-text/src/main.rs
+  "$@" -o "$target/layout-text" tools/layout-text/src/main.rs

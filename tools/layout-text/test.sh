@@ -9,15 +9,15 @@ library=${1:-tools/bench/target/liblayout_c.a}
 target=tools/layout-text/target
 tools/layout-text/build.sh "$library"
 
-linked="-C link-arg=$library"
-for flag in ${LINK_FLAGS:-}; do
-  linked="$linked -C link-arg=$flag"
-done
 run() {
   name=$1
   shift
+  set -- "$@" -C "link-arg=$library"
+  for flag in ${LINK_FLAGS:-}; do
+    set -- "$@" -C "link-arg=$flag"
+  done
   rustc --edition 2021 -C opt-level=1 --test -L "$target" --extern layout --extern layout_text "$@" \
-    --crate-name "$name" $linked -o "$target/$name" "tools/layout-text/tests/$name.rs"
+    --crate-name "$name" -o "$target/$name" "tools/layout-text/tests/$name.rs"
   "$target/$name" --quiet --test-threads 1
 }
 run notation

@@ -83,8 +83,8 @@ fn expr(bytes: &mut Vec<u8>, node: &Expr) {
             bytes.extend(&bits.to_le_bytes()[..literal_width(*kind)]);
         }
         Expr::FieldRef(path) => {
-            bytes.push(0x08 + path.len() as u8);
-            path.iter().for_each(|part| name(bytes, *part));
+            bytes.push(0x08 + path.names().len() as u8);
+            path.names().iter().for_each(|part| name(bytes, *part));
         }
         Expr::Sizeof(target) => {
             bytes.push(0x0D);

@@ -41,15 +41,25 @@ impl Source {
     }
 }
 
+/// The words of an answer, part by part: all of them may be many times as long as the text.
+pub type Parts<'a> = Box<dyn Iterator<Item = String> + 'a>;
+
 /// Words for the answer that a library or a program gave about these bytes.
-pub fn explain(bytes: &[u8], answer: &Report, source: &Source) -> Result<String, String> {
+pub fn explain<'a>(
+    bytes: &[u8],
+    answer: &'a Report,
+    source: &'a Source,
+) -> Result<Parts<'a>, String> {
     match answer {
-        Report::Refused(number) => explain_refusal(bytes, *number, source),
+        Report::Refused(number) => {
+            let words = explain_refusal(bytes, *number, source)?;
+            Ok(Box::new(std::iter::once(words)))
+        }
         Report::Violations(list) => {
             let bundle = read(bytes).map_err(|fault| {
                 format!("there is a report, but the bytes cannot be read: {fault}")
             })?;
-            explain_violations(&bundle, list, source)
+            explain_violations(bundle, list, source)
         }
     }
 }
@@ -96,25 +106,32 @@ fn fault_text(fault: &Fault, source: &Source) -> String {
     format!("Reading stopped at byte {position} (hexadecimal {position:X}){place}: {detail}.\n")
 }
 
-fn explain_violations(
-    bundle: &Bundle,
-    list: &[Violation],
-    source: &Source,
-) -> Result<String, String> {
+fn explain_violations<'a>(
+    bundle: Bundle,
+    list: &'a [Violation],
+    source: &'a Source,
+) -> Result<Parts<'a>, String> {
+    if !list.iter().all(|violation| fits(&bundle, violation)) {
+        return Err(
+            "it is about another bundle: no definition there fits one of its violations"
+                .to_string(),
+        );
+    }
     let definitions = counted(bundle.definitions.len(), "definition");
     let edges = counted(bundle.edges.len(), "edge");
     if list.is_empty() {
-        return Ok(format!(
+        let words = format!(
             "The set passes: {definitions}, {edges}, none of the eight findings.\n{PASS}\n"
-        ));
+        );
+        return Ok(Box::new(std::iter::once(words)));
     }
     let found = counted(list.len(), "violation");
-    let mut out = format!("{found} in {definitions} and {edges}.\n");
-    for (place, violation) in list.iter().enumerate() {
-        out.push_str(&format!("\n{}. ", place + 1));
-        out.push_str(&violation_text(bundle, violation, source)?);
-    }
-    Ok(out)
+    let head = format!("{found} in {definitions} and {edges}.\n");
+    let each = list.iter().enumerate().map(move |(place, violation)| {
+        let words = violation_text(&bundle, violation, source);
+        format!("\n{}. {words}", place + 1)
+    });
+    Ok(Box::new(std::iter::once(head).chain(each)))
 }
 
 fn counted(count: usize, what: &str) -> String {
@@ -124,20 +141,19 @@ fn counted(count: usize, what: &str) -> String {
     }
 }
 
-fn violation_text(
-    bundle: &Bundle,
-    violation: &Violation,
-    source: &Source,
-) -> Result<String, String> {
+/// Whether the definition with the violation's number can have it.
+fn fits(bundle: &Bundle, violation: &Violation) -> bool {
+    let definition = bundle.definitions.get(violation.definition);
+    definition.is_some_and(|definition| {
+        definition.name == violation.name && may_have(&definition.body, violation)
+    })
+}
+
+/// The words for a violation that fits its definition.
+fn violation_text(bundle: &Bundle, violation: &Violation, source: &Source) -> String {
     let names = &source.names;
     let place = violation.definition;
-    let definition = bundle
-        .definitions
-        .get(place)
-        .filter(|definition| definition.name == violation.name)
-        .filter(|definition| may_have(&definition.body, violation))
-        .ok_or("it is about another bundle: no definition there fits one of its violations")?;
-    let word = words::type_word(&definition.body);
+    let word = words::type_word(&bundle.definitions[place].body);
     let name = names.word(violation.name);
     let kind = violation.kind;
     let title = TITLES[usize::from(kind) - 1];
@@ -150,7 +166,7 @@ fn violation_text(
     }
     let chain = names.join(&violation.chain, " -> ");
     out.push_str(&format!("   chain: {chain}\n"));
-    Ok(out)
+    out
 }
 
 /// The path as written; one name alone is a field of the current name.
@@ -164,30 +180,34 @@ fn path_text(bundle: &Bundle, path: &[Name], names: &Names) -> String {
     }
 }
 
-/// Whether a definition of this type can have a violation of that type and path.
+/// Whether a definition of this type can have a violation of that type, with so many names in its path and its
+/// chain. This is the table of docs/FORMAT.md; the reader of reports sees to it that no path has more than four.
 fn may_have(body: &Type, violation: &Violation) -> bool {
-    let path = violation.path.len();
-    match (violation.kind, body) {
-        (1, Type::Group(group)) => group.kind == GroupKind::Enum && path >= 2,
-        (2, Type::Group(group)) => group.kind == GroupKind::Enum && path >= 1,
-        (3, Type::Array(_)) => path >= 1,
-        (4, Type::Group(group)) => group.kind == GroupKind::Struct && path >= 1,
-        (5, Type::Array(array)) => !array.jagged && path == 0,
-        (6..=8, Type::Array(array)) => array.jagged && path == 0,
+    let found_in = match (violation.kind, body) {
+        (1 | 2, Type::Group(group)) => group.kind == GroupKind::Enum,
+        (3, Type::Array(_)) => true,
+        (4, Type::Group(group)) => group.kind == GroupKind::Struct,
+        (5, Type::Array(array)) => !array.jagged,
+        (6..=8, Type::Array(array)) => array.jagged,
         _ => false,
-    }
+    };
+    let (path, chain) = (violation.path.len(), violation.chain.len());
+    found_in
+        && match violation.kind {
+            1 => path == 2 && chain == 3,
+            2 | 3 => path >= 1 && chain >= 1,
+            4 => path >= 1 && chain == 3,
+            6 => path == 0 && chain == 2,
+            _ => path == 0 && chain == 1,
+        }
 }
 
 /// What was found, in a sentence, and no more than the check looked at.
 fn reason(bundle: &Bundle, violation: &Violation, names: &Names) -> String {
     let path = path_text(bundle, &violation.path, names);
-    let on_chain = |place: usize| match violation.chain.get(place) {
-        Some(name) => names.word(*name),
-        None => "?".to_string(),
-    };
+    let on_chain = |place: usize| names.word(violation.chain[place]);
     let name = names.word(violation.name);
     let first = on_chain(0);
-    let second = on_chain(1);
     let itself = violation.chain.len() == 1;
     match violation.kind {
         1 => format!(
@@ -209,16 +229,25 @@ fn reason(bundle: &Bundle, violation: &Violation, names: &Names) -> String {
              The check does not ask whether the field stands before the array."
         ),
         4 => format!(
-            "The type of field `{second}` reads {path}, a field that comes later{}.",
+            "The type of field `{}` reads {path}, a field that comes later{}.",
+            on_chain(1),
             elsewhere(bundle, violation, &name)
         ),
+        _ => element_reason(violation, names),
+    }
+}
+
+/// The same for what is found in the element of an array.
+fn element_reason(violation: &Violation, names: &Names) -> String {
+    match violation.kind {
         5 => "The element counts as one of varying size: a size or tag in it reads a field, or a \
               size-union is in it.\n   \
               The check does not ask whether the elements differ in fact."
             .to_string(),
         6 => format!(
-            "The element of a jagged array must be a struct, and `{second}`, by its own \
-             definition, is none."
+            "The element of a jagged array must be a struct, and `{}`, by its own \
+             definition, is none.",
+            names.word(violation.chain[1])
         ),
         7 => "The element of a jagged array must be a struct or a ref, and this one, written \
               inline, is neither."

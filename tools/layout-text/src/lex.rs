@@ -26,9 +26,9 @@ impl fmt::Display for TextError {
 
 impl std::error::Error for TextError {}
 
-#[derive(Clone, Debug, PartialEq, Eq)]
-pub enum Token {
-    Word(String),
+#[derive(Clone, Copy, Debug, PartialEq, Eq)]
+pub enum Token<'a> {
+    Word(&'a str),
     /// A name by its number: `#17`.
     Numbered(Name),
     /// Size of a number without its sign, and the literal kind that it ends in.
@@ -37,10 +37,10 @@ pub enum Token {
     End,
 }
 
-impl fmt::Display for Token {
+impl fmt::Display for Token<'_> {
     fn fmt(&self, out: &mut fmt::Formatter) -> fmt::Result {
         match self {
-            Token::Word(word) => write!(out, "`{word}`"),
+            Token::Word(word) => write!(out, "`{}`", words::cut(word)),
             Token::Numbered(number) => write!(out, "`#{number}`"),
             Token::Number(value, _) => write!(out, "the number {value}"),
             Token::Sign(sign) => write!(out, "`{sign}`"),
@@ -49,9 +49,9 @@ impl fmt::Display for Token {
     }
 }
 
-#[derive(Clone, Debug)]
-pub struct Placed {
-    pub token: Token,
+#[derive(Clone, Copy, Debug)]
+pub struct Placed<'a> {
+    pub token: Token<'a>,
     pub place: Place,
     /// Whether the token before it ends where this one starts.
     pub adjacent: bool,
@@ -63,34 +63,36 @@ const SIGNS: [&str; 33] = [
     ":", "=", ",", ".", "+", "-", "*", "/", "%", "&", "|", "^", "<", ">", "~", "!",
 ];
 
-pub fn tokens(text: &str) -> Result<Vec<Placed>, TextError> {
-    let mut lexer = Lexer {
-        rest: text,
-        place: Place { line: 1, column: 1 },
-    };
-    let mut list = Vec::new();
-    loop {
-        let skipped = lexer.skip_blank();
-        let place = lexer.place;
-        let token = lexer.token()?;
-        let end = token == Token::End;
-        list.push(Placed {
-            token,
-            place,
-            adjacent: !skipped,
-        });
-        if end {
-            return Ok(list);
-        }
-    }
-}
-
-struct Lexer<'a> {
+/// Goes through a text token by token. No list of them is kept: it would be many times as long as the text.
+#[derive(Clone, Copy)]
+pub struct Lexer<'a> {
     rest: &'a str,
     place: Place,
+    /// Whether a carriage return comes directly before `rest`: a line feed there ends no further line.
+    after_return: bool,
 }
 
 impl<'a> Lexer<'a> {
+    pub fn new(text: &'a str) -> Self {
+        Lexer {
+            rest: text,
+            place: Place { line: 1, column: 1 },
+            after_return: false,
+        }
+    }
+
+    /// The next token; at the end of the text `Token::End`, however often.
+    pub fn placed(&mut self) -> Result<Placed<'a>, TextError> {
+        let skipped = self.skip_blank();
+        let place = self.place;
+        let token = self.token()?;
+        Ok(Placed {
+            token,
+            place,
+            adjacent: !skipped,
+        })
+    }
+
     /// Passes over white space and comments; says whether there were any.
     fn skip_blank(&mut self) -> bool {
         let before = self.rest.len();
@@ -100,21 +102,25 @@ impl<'a> Lexer<'a> {
             if !self.rest.starts_with("//") {
                 return self.rest.len() < before;
             }
-            let line = self.rest.find('\n').unwrap_or(self.rest.len());
+            let line = self.rest.find(['\n', '\r']).unwrap_or(self.rest.len());
             self.advance(line);
         }
     }
 
+    /// A line ends with a line feed, a carriage return, or both in the order of CRLF.
     fn advance(&mut self, bytes: usize) -> &'a str {
         let (passed, rest) = self.rest.split_at(bytes);
         self.rest = rest;
         for letter in passed.chars() {
-            if letter == '\n' {
-                self.place.line += 1;
-                self.place.column = 1;
-            } else {
-                self.place.column += 1;
+            match letter {
+                '\n' if self.after_return => {}
+                '\n' | '\r' => {
+                    self.place.line += 1;
+                    self.place.column = 1;
+                }
+                _ => self.place.column += 1,
             }
+            self.after_return = letter == '\r';
         }
         passed
     }
@@ -126,7 +132,7 @@ impl<'a> Lexer<'a> {
         })
     }
 
-    fn token(&mut self) -> Result<Token, TextError> {
+    fn token(&mut self) -> Result<Token<'a>, TextError> {
         let Some(first) = self.rest.chars().next() else {
             return Ok(Token::End);
         };
@@ -154,7 +160,7 @@ impl<'a> Lexer<'a> {
     }
 
     /// `size-union` is the only word with a hyphen.
-    fn word(&mut self) -> Token {
+    fn word(&mut self) -> Token<'a> {
         let mut length = self.word_length();
         if let Some(after) = self.rest.strip_prefix("size-union") {
             let goes_on = |letter: char| letter.is_alphanumeric() || letter == '_';
@@ -162,10 +168,10 @@ impl<'a> Lexer<'a> {
                 length = "size-union".len();
             }
         }
-        Token::Word(self.advance(length).to_string())
+        Token::Word(self.advance(length))
     }
 
-    fn numbered(&mut self) -> Result<Token, TextError> {
+    fn numbered(&mut self) -> Result<Token<'a>, TextError> {
         let digits = &self.rest[1..];
         let ends = |letter: char| !letter.is_ascii_digit();
         let length = digits.find(ends).unwrap_or(digits.len());
@@ -176,7 +182,7 @@ impl<'a> Lexer<'a> {
         Ok(Token::Numbered(number))
     }
 
-    fn number(&mut self) -> Result<Token, TextError> {
+    fn number(&mut self) -> Result<Token<'a>, TextError> {
         let text = &self.rest[..self.word_length()];
         // Neither `u` nor `i` is a hexadecimal digit.
         let split = text.find(['u', 'i']).unwrap_or(text.len());
@@ -188,10 +194,11 @@ impl<'a> Lexer<'a> {
         };
         let kind = words::kind_of(&words::LITERALS, words::FIRST_LITERAL, ending);
         let Ok(value) = value else {
-            return self.error(format!("`{text}` is no number of 64 bits"));
+            return self.error(format!("`{}` is no number of 64 bits", words::cut(text)));
         };
         if kind.is_none() && !ending.is_empty() {
             let endings = words::LITERALS.join(", ");
+            let text = words::cut(text);
             return self.error(format!("`{text}` must end in one of {endings}, or in none"));
         }
         self.advance(text.len());

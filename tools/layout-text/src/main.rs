@@ -5,7 +5,7 @@ mod files;
 use files::{FileError, Input};
 use layout::Refusal;
 use layout_text::encode::encode;
-use layout_text::explain::{explain, Source};
+use layout_text::explain::{explain, Parts, Source};
 use layout_text::names::Names;
 use layout_text::parse::{parse, Text};
 use layout_text::read::read;
@@ -13,6 +13,7 @@ use layout_text::recognise::is_text;
 use layout_text::report::{self, Report};
 use layout_text::show::show;
 use layout_text::tree::BYTE_LIMIT;
+use layout_text::words::cut;
 use std::io::{self, Write};
 use std::process::ExitCode;
 
@@ -23,15 +24,20 @@ const USAGE: &str = "usage:
                        [--report REPORT [--as-given]]
   layout-text help
 
+An option may be given once, and --text and --bytes exclude each other.
 A file that is left out, or `-`, is standard input or output. explain takes FILE as
 text if its name ends in .layout, or if it does not start with hex 60 and is UTF-8
 without control characters; --text and --bytes say otherwise. REPORT is a report's
-bytes or its hexadecimal digits; one that is not FILE's is refused, unless --as-given.
+bytes or its hexadecimal digits; one that is not FILE's is refused. With --as-given it
+is not compared.
 A text may have 4,194,304 bytes.
 Exit codes: 0 done, and for explain no violation; 1 violations; 2 a bundle that is
 refused; 3 a damaged text, a report that is not the bundle's, a file that cannot be
 read or written, or a wrong command.
 ";
+
+/// The end of each message about a wrong command.
+const MORE: &str = "`layout-text help` says what can be given";
 
 const VIOLATIONS: u8 = 1;
 const REFUSED: u8 = 2;
@@ -44,6 +50,9 @@ const REPORT_LIMIT: usize = 64 << 20;
 const BUNDLE_BYTES: usize = BYTE_LIMIT + 1;
 /// What the program `layout` lends to its report.
 const PROGRAM_OUTPUT: usize = 65_536;
+
+/// The bytes of a report on a line of `--hex`.
+const HEX_LINE: usize = 16;
 
 /// A message and the exit code that goes with it; no message where nobody reads.
 type Failure = (String, u8);
@@ -60,20 +69,33 @@ struct Arguments {
     help: bool,
 }
 
+/// Puts a value where there is none yet.
+fn once<T>(place: &mut Option<T>, value: T, word: &str) -> Result<(), String> {
+    match place.replace(value) {
+        None => Ok(()),
+        Some(_) => Err(format!("`{word}` is given twice")),
+    }
+}
+
 fn main() -> ExitCode {
     // A name that is no UTF-8 names no file here, and the message shows it.
     let words = std::env::args_os().skip(1);
     let mut words = words.map(|word| word.to_string_lossy().into_owned());
-    let verb = words.next().unwrap_or_default();
+    let Some(verb) = words.next() else {
+        note(USAGE);
+        return ExitCode::from(FAILED);
+    };
     let (run, allowed): (fn(&Arguments) -> Result<u8, Failure>, &[&str]) = match verb.as_str() {
         "assemble" => (run_assemble, &["-o"]),
         "show" => (run_show, &["-o", "--names"]),
         "explain" => (run_explain, &EXPLAIN_OPTIONS),
-        "help" | "-h" | "--help" => (run_help, &[]),
-        _ => (|_| Err((USAGE.to_string(), FAILED)), &[]),
+        "help" | "-h" | "--help" => (run_help, &["help"]),
+        _ => {
+            note(&format!("`{}` is no verb; {MORE}", cut(&verb)));
+            return ExitCode::from(FAILED);
+        }
     };
-    let found = arguments(words, allowed);
-    let done = found.and_then(|found| match found.help {
+    let done = arguments(words, allowed).and_then(|found| match found.help {
         true => run_help(&found),
         false => one_standard_input(&found).and_then(|()| run(&found)),
     });
@@ -102,33 +124,53 @@ fn note(message: &str) {
     }
 }
 
-fn arguments(
-    mut words: impl Iterator<Item = String>,
-    allowed: &[&str],
-) -> Result<Arguments, Failure> {
-    let wrong = |word: &str| (format!("wrong argument `{word}`\n{USAGE}"), FAILED);
-    let mut found = Arguments::default();
-    while let Some(word) = words.next() {
-        let help = ["-h", "--help"].contains(&word.as_str());
-        let option = word.starts_with('-') && word != "-";
-        if option && !help && !allowed.contains(&word.as_str()) {
-            return Err(wrong(&word));
+fn arguments(words: impl Iterator<Item = String>, allowed: &[&str]) -> Result<Arguments, Failure> {
+    let found = options(words, allowed).and_then(|found| {
+        match found.as_given && found.report.is_none() && !found.help {
+            true => Err("`--as-given` is given without `--report`".to_string()),
+            false => Ok(found),
         }
-        let mut value = || words.next().ok_or_else(|| wrong(&word)).map(Some);
-        match word.as_str() {
-            "-o" => found.out = value()?,
-            "--names" => found.names = value()?,
-            "--report" => found.report = value()?,
-            "--as-given" => found.as_given = true,
-            "--text" => found.text = Some(true),
-            "--bytes" => found.text = Some(false),
-            "--hex" => found.hex = true,
+    });
+    found.map_err(|fault| (format!("{fault}; {MORE}"), FAILED))
+}
+
+fn options(mut words: impl Iterator<Item = String>, allowed: &[&str]) -> Result<Arguments, String> {
+    let mut found = Arguments::default();
+    let (mut hex, mut as_given) = (None, None);
+    while let Some(word) = words.next() {
+        let word = word.as_str();
+        let help = ["-h", "--help"].contains(&word);
+        let option = word.starts_with('-') && word != "-";
+        if option && !help && !allowed.contains(&word) {
+            return Err(format!("wrong argument `{}`", cut(word)));
+        }
+        let mut value = || words.next().ok_or(format!("`{word}` needs a file"));
+        match word {
+            "-o" => once(&mut found.out, value()?, word)?,
+            "--names" => once(&mut found.names, value()?, word)?,
+            "--report" => once(&mut found.report, value()?, word)?,
+            "--as-given" => once(&mut as_given, (), word)?,
+            "--hex" => once(&mut hex, (), word)?,
+            "--text" | "--bytes" => text_or_bytes(&mut found.text, word)?,
             _ if help => found.help = true,
-            _ if found.file.is_none() => found.file = Some(word),
-            _ => return Err(wrong(&word)),
+            _ if found.file.is_none() && !allowed.contains(&"help") => {
+                found.file = Some(word.to_string());
+            }
+            _ => return Err(format!("`{}` is one argument too many", cut(word))),
         }
     }
+    found.hex = hex.is_some();
+    found.as_given = as_given.is_some();
     Ok(found)
+}
+
+fn text_or_bytes(text: &mut Option<bool>, word: &str) -> Result<(), String> {
+    let given = word == "--text";
+    match text.replace(given) {
+        None => Ok(()),
+        Some(before) if before == given => Err(format!("`{word}` is given twice")),
+        Some(_) => Err("`--text` and `--bytes` are both given".to_string()),
+    }
 }
 
 /// Standard input can be read once only.
@@ -273,7 +315,13 @@ fn run_show(arguments: &Arguments) -> Result<u8, Failure> {
     let path = arguments.file.as_deref();
     let bytes = bundle_bytes(path)?;
     let names = names_from(arguments.names.as_deref())?;
-    let bundle = read(&bytes).map_err(|fault| (format!("{}: {fault}", label(path)), REFUSED))?;
+    let bundle = read(&bytes).map_err(|fault| {
+        let hint = match is_text(&bytes) {
+            true => "; the file looks like text, which `assemble` takes",
+            false => "",
+        };
+        (format!("{}: {fault}{hint}", label(path)), REFUSED)
+    })?;
     output(arguments.out.as_deref(), show(&bundle, &names).as_bytes())?;
     Ok(0)
 }
@@ -290,12 +338,24 @@ fn run_explain(arguments: &Arguments) -> Result<u8, Failure> {
     };
     let failure = |message| (format!("the report: {message}"), FAILED);
     let report = report::read(&answer).map_err(failure)?;
-    let words = match arguments.hex {
-        true => hex(&answer),
-        false => explain(&bytes, &report, &source).map_err(failure)?,
+    let words = explain(&bytes, &report, &source).map_err(failure);
+    let digits = || -> Parts { Box::new(answer.chunks(1_024 * HEX_LINE).map(hex)) };
+    let parts = match arguments.hex {
+        // What the library itself answered is shown whatever it is.
+        true if arguments.report.is_none() => digits(),
+        true => words.map(|_| digits())?,
+        false => words?,
     };
-    output(None, words.as_bytes())?;
-    Ok(match report {
+    for part in parts {
+        output(None, part.as_bytes())?;
+    }
+    if arguments.as_given {
+        let place = label(arguments.report.as_deref());
+        note(&format!(
+            "{place}: taken as given, not compared with the library's report"
+        ));
+    }
+    Ok(match &report {
         Report::Refused(_) => REFUSED,
         Report::Violations(list) if list.is_empty() => 0,
         Report::Violations(_) => VIOLATIONS,
@@ -325,18 +385,21 @@ fn set_from(arguments: &Arguments) -> Result<(Vec<u8>, Source), Failure> {
     Ok((encoded(path, &text)?, source_of(text)))
 }
 
-/// A report that was stored. It is this bundle's if the library gives the same, or
-/// if it is the refusal that the program gives where the library's is too long.
+/// A report that was stored; the library is not asked where it is taken as given. Otherwise it must be this bundle's:
+/// the one that the library gives, or the refusal that the program gives where the library's is too long.
 fn stored_answer(path: Option<&str>, bytes: &[u8], as_given: bool) -> Result<Vec<u8>, Failure> {
     let failure = |message: String| (format!("{}: {message}", label(path)), FAILED);
     let file = whole(path, REPORT_LIMIT, "a report")?;
     let given = report::from_file(file).map_err(failure)?;
     report::read(&given).map_err(failure)?;
+    if as_given {
+        return Ok(given);
+    }
     let own = answer_of(bytes);
     let narrow = own.len() > PROGRAM_OUTPUT && given == [0x7E, Refusal::Narrow.number()];
     match report::difference(&given, &own) {
-        Some(difference) if !as_given && !narrow => Err(failure(format!(
-            "not this bundle's report: {difference} (--as-given takes it all the same)"
+        Some(difference) if !narrow => Err(failure(format!(
+            "not this bundle's report: {difference} (--as-given does not compare)"
         ))),
         _ => Ok(given),
     }
@@ -350,6 +413,6 @@ fn answer_of(bytes: &[u8]) -> Vec<u8> {
 
 fn hex(bytes: &[u8]) -> String {
     let pairs: Vec<String> = bytes.iter().map(|byte| format!("{byte:02X}")).collect();
-    let lines: Vec<String> = pairs.chunks(16).map(|line| line.join(" ")).collect();
+    let lines: Vec<String> = pairs.chunks(HEX_LINE).map(|line| line.join(" ")).collect();
     lines.join("\n") + "\n"
 }

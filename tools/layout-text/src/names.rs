@@ -1,6 +1,7 @@
 //! Words for names, and the numbers that stand for them in the bytes.
 
 use crate::tree::Name;
+use crate::words::cut;
 use std::collections::{BTreeMap, HashMap, HashSet};
 
 #[derive(Clone, Debug, Default)]
@@ -21,9 +22,11 @@ impl Names {
     /// Gives a word its number, or says which word has one of the two already.
     pub fn set(&mut self, word: &str, number: Name) -> Result<(), String> {
         if let Some(other) = self.words.get(&number) {
+            let other = cut(other);
             return Err(format!("number {number} is the name `{other}` already"));
         }
         if let Some(other) = self.numbers.get(word) {
+            let word = cut(word);
             return Err(format!("`{word}` has the number {other} already"));
         }
         self.words.insert(number, word.to_string());

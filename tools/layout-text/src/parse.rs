@@ -4,7 +4,7 @@
 //! place. The order of the text is that of the bytes, so numbers given in order
 //! of first use are those that renumbering would give.
 
-use crate::lex::{tokens, Place, Placed, TextError, Token};
+use crate::lex::{Lexer, Place, Placed, TextError, Token};
 use crate::names::Names;
 use crate::tree::*;
 use crate::words;
@@ -24,18 +24,12 @@ pub struct Text {
 
 /// A byte order mark at the start is passed over.
 pub fn parse(text: &str) -> Parsed<Text> {
-    let tokens = tokens(text.strip_prefix('\u{FEFF}').unwrap_or(text))?;
-    let mut names = Names::default();
-    for placed in &tokens {
-        if let Token::Numbered(number) = placed.token {
-            names.take(number);
-        }
-    }
+    let mut lexer = Lexer::new(text.strip_prefix('\u{FEFF}').unwrap_or(text));
     let mut parser = Parser {
-        tokens,
-        at: 0,
+        names: numbers_taken(lexer)?,
+        next: lexer.placed()?,
+        lexer,
         nesting: 0,
-        names,
         lines: Vec::new(),
     };
     let bundle = parser.bundle()?;
@@ -46,25 +40,45 @@ pub fn parse(text: &str) -> Parsed<Text> {
     })
 }
 
-struct Parser {
-    tokens: Vec<Placed>,
-    at: usize,
+/// The names with the numbers of each `#` in the text taken. All of the text is passed over, so that it has no token
+/// that cannot be read behind this.
+fn numbers_taken(mut lexer: Lexer) -> Parsed<Names> {
+    let mut names = Names::default();
+    loop {
+        match lexer.placed()?.token {
+            Token::Numbered(number) => names.take(number),
+            Token::End => return Ok(names),
+            _ => {}
+        }
+    }
+}
+
+struct Parser<'a> {
+    /// Behind the next token.
+    lexer: Lexer<'a>,
+    next: Placed<'a>,
     nesting: usize,
     names: Names,
     lines: Vec<usize>,
 }
 
-impl Parser {
-    fn next(&self) -> &Token {
-        &self.tokens[self.at].token
+impl<'a> Parser<'a> {
+    fn next(&self) -> Token<'a> {
+        self.next.token
     }
 
     fn place(&self) -> Place {
-        self.tokens[self.at].place
+        self.next.place
+    }
+
+    fn after_next(&self) -> (Lexer<'a>, Placed<'a>) {
+        let mut lexer = self.lexer;
+        let placed = lexer.placed().expect("the whole text was passed over");
+        (lexer, placed)
     }
 
     fn advance(&mut self) {
-        self.at = (self.at + 1).min(self.tokens.len() - 1);
+        (self.lexer, self.next) = self.after_next();
     }
 
     fn error<T>(&self, message: impl Into<String>) -> Parsed<T> {
@@ -79,7 +93,7 @@ impl Parser {
     }
 
     fn at_sign(&self, sign: &str) -> bool {
-        matches!(self.next(), Token::Sign(other) if *other == sign)
+        matches!(self.next(), Token::Sign(other) if other == sign)
     }
 
     fn at_word(&self, word: &str) -> bool {
@@ -138,7 +152,7 @@ impl Parser {
         while self.take_word("edge") {
             bundle.edges.push(self.edge()?);
         }
-        if *self.next() != Token::End {
+        if self.next() != Token::End {
             return self.misplaced();
         }
         Ok(bundle)
@@ -147,7 +161,7 @@ impl Parser {
     fn misplaced<T>(&self) -> Parsed<T> {
         let order = "first come `name` lines, then one `current`, then `define`, then `edge`";
         match self.next() {
-            Token::Word(word) if ["name", "current", "define", "edge"].contains(&word.as_str()) => {
+            Token::Word(word) if ["name", "current", "define", "edge"].contains(&word) => {
                 self.error(format!("`{word}` comes too late: {order}"))
             }
             other => self.error(format!("{other} is not due here: {order}")),
@@ -157,21 +171,21 @@ impl Parser {
     /// `name cell = 17`
     fn name_line(&mut self) -> Parsed<()> {
         let place = self.place();
-        let Token::Word(word) = self.next().clone() else {
+        let Token::Word(word) = self.next() else {
             return self.expected("a name in letters");
         };
-        self.name_may_be(&word)?;
+        self.name_may_be(word)?;
         self.advance();
         self.sign("=")?;
         let number = match self.next() {
-            Token::Number(value, None) => Name::try_from(*value).ok(),
+            Token::Number(value, None) => Name::try_from(value).ok(),
             _ => None,
         };
         let Some(number) = number else {
             return self.expected("a number from 0 to 65535");
         };
         self.advance();
-        let set = self.names.set(&word, number);
+        let set = self.names.set(word, number);
         set.map_err(|message| TextError { place, message })
     }
 
@@ -183,11 +197,11 @@ impl Parser {
     }
 
     fn name(&mut self) -> Parsed<Name> {
-        let number = match self.next().clone() {
+        let number = match self.next() {
             Token::Numbered(number) => number,
             Token::Word(word) => {
-                self.name_may_be(&word)?;
-                let given = self.names.number(&word);
+                self.name_may_be(word)?;
+                let given = self.names.number(word);
                 given.or_else(|message| self.error(message))?
             }
             _ => return self.expected("a name"),
@@ -217,25 +231,26 @@ impl Parser {
     }
 
     fn type_inside(&mut self) -> Parsed<Type> {
-        let Token::Word(word) = self.next().clone() else {
+        let Token::Word(word) = self.next() else {
             return self.expected("a type");
         };
-        if let Some(kind) = words::kind_of(&words::PRIMITIVES, words::FIRST_PRIMITIVE, &word) {
+        if let Some(kind) = words::kind_of(&words::PRIMITIVES, words::FIRST_PRIMITIVE, word) {
             self.advance();
             return Ok(Type::Primitive(kind));
         }
         if let Some((_, kind)) = words::GROUPS.iter().find(|(other, _)| *other == word) {
             self.advance();
-            return Ok(Type::Group(self.group(*kind)?));
+            return Ok(Type::Group(Box::new(self.group(*kind)?)));
         }
-        match word.as_str() {
+        match word {
             "ref" => {
                 self.advance();
                 Ok(Type::TypeRef(self.name()?))
             }
             "array" | "jagged" => Ok(Type::Array(Box::new(self.array()?))),
             _ => self.error(format!(
-                "`{word}` is no type; a definition's name needs `ref` before it"
+                "`{}` is no type; a definition's name needs `ref` before it",
+                words::cut(word)
             )),
         }
     }
@@ -250,7 +265,7 @@ impl Parser {
     }
 
     fn plain_number(&mut self, what: &str) -> Parsed<u64> {
-        match *self.next() {
+        match self.next() {
             Token::Number(value, None) => {
                 self.advance();
                 Ok(value)
@@ -291,7 +306,7 @@ impl Parser {
         self.sign("{")?;
         let mut members = Vec::new();
         while !self.take_sign("}") {
-            if *self.next() == Token::End {
+            if self.next() == Token::End {
                 return self.expected("`}` or a member");
             }
             members.push(self.member(kind)?);
@@ -361,7 +376,7 @@ impl Parser {
     }
 
     fn operand_inside(&mut self) -> Parsed<Expr> {
-        match self.next().clone() {
+        match self.next() {
             Token::Number(value, kind) => self.literal(value, kind, false),
             Token::Sign("(") => {
                 self.advance();
@@ -378,7 +393,7 @@ impl Parser {
                 self.advance();
                 Ok(Expr::Unary(kind, Box::new(self.operand()?)))
             }
-            Token::Word(word) if self.is_call(&word) => self.call(&word),
+            Token::Word(word) if self.is_call(word) => self.call(word),
             Token::Word(_) | Token::Numbered(_) => self.path(),
             Token::End => self.expected("an expression"),
         }
@@ -387,8 +402,8 @@ impl Parser {
     /// A minus directly before a number is its sign; elsewhere it is an operator.
     fn minus(&mut self) -> Parsed<Expr> {
         self.advance();
-        let adjacent = self.tokens[self.at].adjacent;
-        match *self.next() {
+        let adjacent = self.next.adjacent;
+        match self.next() {
             Token::Number(value, kind) if adjacent => self.literal(value, kind, true),
             _ => Ok(Expr::Unary(words::NEG, Box::new(self.operand()?))),
         }
@@ -418,8 +433,8 @@ impl Parser {
     }
 
     fn is_call(&self, word: &str) -> bool {
-        let after = self.tokens.get(self.at + 1).map(|placed| &placed.token);
-        ["sizeof", "alignof", "popcount"].contains(&word) && after == Some(&Token::Sign("("))
+        let named = ["sizeof", "alignof", "popcount"].contains(&word);
+        named && self.after_next().1.token == Token::Sign("(")
     }
 
     fn call(&mut self, word: &str) -> Parsed<Expr> {
@@ -435,9 +450,9 @@ impl Parser {
     }
 
     fn path(&mut self) -> Parsed<Expr> {
-        let mut path = vec![self.name()?];
+        let mut path = Path::new(self.name()?);
         while self.at_sign(".") {
-            if path.len() == 4 {
+            if path.is_full() {
                 return self.error("a path has four names at most");
             }
             self.advance();

@@ -169,7 +169,7 @@ impl<'a> Reader<'a> {
             0x40 => Ok(Type::TypeRef(name_at(self.body(2)?, 0))),
             0x44 => Ok(Type::Array(Box::new(self.array(depth)?))),
             _ => match GroupKind::from_byte(kind) {
-                Some(group) => Ok(Type::Group(self.group(group, depth)?)),
+                Some(group) => Ok(Type::Group(Box::new(self.group(group, depth)?))),
                 None => Ok(Type::Primitive(kind)),
             },
         }
@@ -234,8 +234,10 @@ impl<'a> Reader<'a> {
             0x01..=0x08 => Expr::Literal(kind, number(self.body(literal_width(kind))?)),
             0x09..=0x0C => {
                 let body = self.body(2 * (usize::from(kind) - 8))?;
-                let places = (0..body.len()).step_by(2);
-                Expr::FieldRef(places.map(|at| name_at(body, at)).collect())
+                let mut path = Path::new(name_at(body, 0));
+                let places = (2..body.len()).step_by(2);
+                places.for_each(|at| path.push(name_at(body, at)));
+                Expr::FieldRef(path)
             }
             0x0D => Expr::Sizeof(name_at(self.body(2)?, 0)),
             0x0E => Expr::Alignof(name_at(self.body(2)?, 0)),

@@ -1,6 +1,7 @@
 //! The bytes of a report to violations, and a file of hexadecimal digits to bytes.
 
-use crate::tree::Name;
+use crate::tree::{Name, PATH_LIMIT};
+use crate::words::cut;
 
 #[derive(Clone, Debug, PartialEq, Eq)]
 pub struct Violation {
@@ -53,9 +54,10 @@ pub fn from_file(file: Vec<u8>) -> Result<Vec<u8>, String> {
         let digits: Option<Vec<u32>> = word.iter().map(digit).collect();
         let digits = digits.filter(|digits| digits.len() % 2 == 0);
         let Some(digits) = digits else {
-            let word = String::from_utf8_lossy(&word[..word.len().min(20)]);
+            let word = String::from_utf8_lossy(word);
             return Err(format!(
-                "`{word}` is not made of pairs of hexadecimal digits"
+                "`{}` is not made of pairs of hexadecimal digits",
+                cut(&word)
             ));
         };
         let pairs = digits.chunks(2).map(|pair| (pair[0] * 16 + pair[1]) as u8);
@@ -110,11 +112,16 @@ impl Reader<'_> {
         let definition = usize::from(self.word()?);
         let name = self.word()?;
         let count = usize::from(self.byte()?);
-        if count > 4 {
+        if count > PATH_LIMIT {
             return Err(format!("byte {} counts {count} names of a path", start + 5));
         }
         let mut path = vec![self.word()?, self.word()?, self.word()?, self.word()?];
-        path.truncate(count);
+        if path.drain(count..).any(|unused| unused != 0) {
+            return Err(format!(
+                "the path that starts at byte {} has {count} names, but more places that are not 0",
+                start + 6
+            ));
+        }
         let length = self.word()?;
         let chain = (0..length).map(|_| self.chain_name());
         let chain = chain.collect::<Result<_, String>>()?;

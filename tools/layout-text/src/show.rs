@@ -128,7 +128,7 @@ impl Writer<'_> {
         match node {
             Expr::Literal(kind, bits) => literal(*kind, *bits),
             Expr::FieldRef(path) => {
-                let parts: Vec<String> = path.iter().map(|part| self.name(*part)).collect();
+                let parts: Vec<String> = path.names().iter().map(|part| self.name(*part)).collect();
                 parts.join(".")
             }
             Expr::Sizeof(target) => format!("sizeof({})", self.name(*target)),

@@ -7,12 +7,43 @@ pub const DEPTH_LIMIT: usize = 24;
 pub const BYTE_LIMIT: usize = 32_768;
 pub const DEFINITION_LIMIT: usize = 256;
 pub const EDGE_LIMIT: usize = 1_024;
+pub const PATH_LIMIT: usize = 4;
+
+/// The one to four names of a FieldRef, in place: a text of the greatest length has millions of them.
+#[derive(Clone, Copy, Debug, PartialEq, Eq)]
+pub struct Path {
+    places: [Name; PATH_LIMIT],
+    count: u8,
+}
+
+impl Path {
+    pub fn new(first: Name) -> Path {
+        Path {
+            places: [first, 0, 0, 0],
+            count: 1,
+        }
+    }
+
+    pub fn is_full(&self) -> bool {
+        self.names().len() == PATH_LIMIT
+    }
+
+    /// Adds a name; the path is not full.
+    pub fn push(&mut self, name: Name) {
+        self.places[usize::from(self.count)] = name;
+        self.count += 1;
+    }
+
+    pub fn names(&self) -> &[Name] {
+        &self.places[..usize::from(self.count)]
+    }
+}
 
 #[derive(Clone, Debug, PartialEq, Eq)]
 pub enum Expr {
     /// Kind byte 01 to 08 and the bits, without sign.
     Literal(u8, u64),
-    FieldRef(Vec<Name>),
+    FieldRef(Path),
     Sizeof(Name),
     Alignof(Name),
     /// Kind byte 10 to 23.
@@ -57,7 +88,7 @@ pub enum Type {
     /// Kind byte 30 to 3B.
     Primitive(u8),
     TypeRef(Name),
-    Group(Group),
+    Group(Box<Group>),
     Array(Box<Array>),
 }
 

@@ -1,6 +1,7 @@
 //! The words and signs of the notation, in the order of their kind bytes.
 
 use crate::tree::{GroupKind, Type};
+use std::borrow::Cow;
 
 /// From kind byte 30 on.
 pub const PRIMITIVES: [&str; 12] = [
@@ -36,6 +37,17 @@ pub const GROUPS: [(&str, GroupKind); 4] = [
     ("enum", GroupKind::Enum),
     ("size-union", GroupKind::SizeUnion),
 ];
+
+/// The most letters that a message repeats of a word from the input.
+const QUOTED: usize = 40;
+
+/// A word from the input for a message: the whole word, or its start and an ellipsis.
+pub fn cut(word: &str) -> Cow<'_, str> {
+    match word.char_indices().nth(QUOTED) {
+        None => Cow::Borrowed(word),
+        Some((end, _)) => Cow::Owned(format!("{}…", &word[..end])),
+    }
+}
 
 /// The kind byte that a word or sign of a list stands for.
 pub fn kind_of(list: &[&str], first: u8, word: &str) -> Option<u8> {

@@ -41,10 +41,11 @@ chmod +x "$work/bin/rt" "$copy/tools/layout-text/build.sh"
 PATH=$work/bin:$PATH
 failed=0
 
-# after WHAT CODE CALLS [FILE]: runs it in another folder, and looks at its exit code and at what it built.
+# after WHAT CODE CALLS [FILE]: runs $script in another folder, and looks at its exit code and at what it built.
+script=$copy/tools/explain
 after() {
   : > "$work/calls"
-  (cd "$work/elsewhere" && "$copy/tools/explain" "${4:-set.layout}") > "$work/out" 2> "$work/err" < "$work/elsewhere/set.layout"
+  (cd "$work/elsewhere" && "$script" "${4:-set.layout}") > "$work/out" 2> "$work/err" < "$work/elsewhere/set.layout"
   code=$?
   calls=$(tr '\n' ';' < "$work/calls")
   if [ "$code" -ne "$2" ] || [ "$calls" != "$3" ]; then
@@ -99,6 +100,50 @@ done
 printf x > "$copy/tools/layout-text/target/layout-text"
 after 'a program of one byte' 0 "$program"
 after 'all is built' 0 ''
+
+# By a symbolic link it works in its own repository, and leaves the folder of the link alone.
+mkdir -p "$work/link/bin" "$work/link/target/staticlib" "$work/link/crates"
+: > "$work/link/crates/file"
+echo 'not ours' > "$work/link/target/staticlib/liblayout_c.a"
+ln -s "$copy/tools/explain" "$work/link/bin/first"
+ln -s first "$work/link/bin/explain"
+script=$work/link/bin/explain
+after 'by a link' 0 ''
+says out 'The set passes: 8 definitions'
+after 'help by a link' 0 '' --help
+says out 'Usage: tools/explain'
+# A copy outside of a repository builds and removes nothing.
+mkdir "$work/link/tools"
+cp tools/explain "$work/link/tools/explain"
+script=$work/link/tools/explain
+after 'no repository' 3 ''
+says err "$work/link is not the repository: it has no crates.txt"
+grep -q 'not ours' "$work/link/target/staticlib/liblayout_c.a" || { failed=1; echo 'failed: a strange library is gone'; }
+script=$copy/tools/explain
+
+# Names of files that a shell would take apart.
+odd="$copy/crates/meaning/specs/It's \"a\"  law.antt"
+echo 'a law' > "$odd"
+after 'a name with spaces and quotes' 0 "$library"
+after 'the same' 0 ''
+echo 'its change' > "$odd"
+after 'its change' 0 "$library"
+rm "$odd"
+after 'it went' 0 "$library"
+
+# Where the sums cannot be taken, nothing is built and nothing removed.
+mv "$copy/crates" "$copy/away"
+after 'no sources' 3 ''
+says err 'the checksums cannot be taken of: crates crates.txt'
+[ -f "$copy/target/staticlib/liblayout_c.a" ] || { failed=1; echo 'failed: the library is gone'; }
+mv "$copy/away" "$copy/crates"
+printf '#!/bin/sh\nexit 1\n' > "$work/bin/cksum"
+chmod +x "$work/bin/cksum"
+after 'no cksum' 3 ''
+says err 'the checksums cannot be taken'
+[ -f "$copy/target/staticlib/liblayout_c.a" ] || { failed=1; echo 'failed: the library is gone'; }
+rm "$work/bin/cksum"
+after 'all is there again' 0 ''
 
 # What is not built is told, and not taken the next time.
 echo 'a wrong law' > "$copy/crates/meaning/specs/Law.antt"

@@ -100,7 +100,10 @@ fn rows_group_from_the_left() {
     assert_ne!(size("a - b - c"), size("a - (b - c)"));
     assert_eq!(size("a -1i8"), size("a - 1i8"));
     assert_eq!(size("popcount(a ^^ !b)"), size("popcount((a) ^^ (!(b)))"));
-    assert_eq!(size("a.b.c.#7"), Expr::FieldRef(vec![1, 2, 3, 7]));
+    let Expr::FieldRef(path) = size("a.b.c.#7") else {
+        panic!("no path");
+    };
+    assert_eq!(path.names(), [1, 2, 3, 7]);
 }
 
 #[test]
@@ -124,6 +127,59 @@ fn faults_have_line_and_column() {
     assert_eq!(fault("// é\ndefine é $").1, 10);
     assert_eq!(fault("define a enum { b = 1: u8 }").1, 15);
     assert_eq!(fault("define a struct { b = 1: u8 }").1, 21);
+}
+
+#[test]
+fn a_carriage_return_ends_a_line() {
+    let lines = [
+        "// a comment",
+        "define a u8 // one",
+        "",
+        "define b u16",
+        "edge a -> b tag",
+    ];
+    let text = lines.join("\n");
+    for end in ["\r", "\r\n"] {
+        let other = lines.join(end);
+        assert_eq!(bytes(&other), bytes(&text));
+        assert_eq!(parse(&other).unwrap().lines, [2, 4]);
+        let (line, column, _) = fault(&lines.join(end).replace("u16", "u9"));
+        assert_eq!((line, column), (4, 10));
+    }
+    assert_eq!(fault("\n\r\n\r\r\n\n  $").0, 6);
+    assert_eq!(fault("//\r\n$").0, 2);
+    assert_eq!(fault("//\n\r$").0, 3);
+}
+
+#[test]
+fn messages_repeat_the_start_of_a_long_word() {
+    let digits = "7".repeat(100_000);
+    let letters = "é".repeat(100_000);
+    let number = "7".repeat(40) + "…";
+    let word = "é".repeat(40) + "…";
+    let cases = [
+        (format!("define a array [{digits}] u8"), &number),
+        (format!("define a array [{digits}u9] u8"), &number),
+        (
+            format!("define a array [7_{letters}] u8"),
+            &"7_".to_string(),
+        ),
+        (format!("define a {letters}"), &word),
+        (format!("define a u8 {letters}"), &word),
+        (format!("edge a -> b {letters}"), &word),
+        (format!("edge a {letters}"), &word),
+        (format!("name {letters} = 1 name b = 1"), &word),
+        (format!("name {letters} = 1 name {letters} = 2"), &word),
+    ];
+    for (text, start) in cases {
+        let message = fault(&text).2;
+        assert!(message.contains(start.as_str()), "{}", message.len());
+        assert!(message.chars().count() < 200, "{}", message.len());
+    }
+    let whole = "define a ".to_string() + &"x".repeat(40);
+    assert!(!fault(&whole).2.contains('…'));
+    let message = report::from_file(digits[1..].as_bytes().to_vec()).unwrap_err();
+    assert!(message.contains(&number) && message.len() < 200);
 }
 
 #[test]
@@ -235,10 +291,8 @@ fn words(text: &str, kind: u8, definition: usize, path: &[u16], chain: &[u16]) -
         names: parsed.names,
         lines: parsed.lines,
     };
-    match explain(&encode(&parsed.bundle).unwrap(), &report, &source) {
-        Ok(words) => words,
-        Err(message) => format!("refused: {message}"),
-    }
+    let found = explain(&encode(&parsed.bundle).unwrap(), &report, &source);
+    found.map_or_else(|message| format!("refused: {message}"), Iterator::collect)
 }
 
 #[test]
@@ -263,7 +317,9 @@ fn findings_claim_what_was_looked_at() {
 #[test]
 fn a_pass_is_no_more_than_the_absence_of_findings() {
     let report = Report::Violations(Vec::new());
-    let found = explain(&bytes("define a u8"), &report, &Source::default()).unwrap();
+    let source = Source::default();
+    let found = explain(&bytes("define a u8"), &report, &source).unwrap();
+    let found: String = found.collect();
     assert!(found.contains("none of the eight findings"), "{found}");
     assert!(found.contains("docs/PASS.md"), "{found}");
 }
@@ -282,7 +338,7 @@ fn violations_must_fit_their_definition() {
     for (text, kinds) in sets {
         for kind in 1..=8 {
             let path: &[u16] = if kind < 5 { &[1, 2] } else { &[] };
-            let found = words(text, kind, 0, path, &[1, 2, 3]);
+            let found = words(text, kind, 0, path, &[1, 2, 3][..CHAINS[kind as usize - 1]]);
             assert_eq!(
                 !found.starts_with("refused"),
                 kinds.contains(&kind),
@@ -290,8 +346,48 @@ fn violations_must_fit_their_definition() {
             );
         }
     }
-    let path_missing = words("define a array [s.n] u8", 3, 0, &[], &[1]);
-    assert!(path_missing.starts_with("refused"), "{path_missing}");
-    let path_given = words("define a array [s.n] u8", 5, 0, &[1], &[1]);
-    assert!(path_given.starts_with("refused"), "{path_given}");
+}
+
+/// A chain's length for each type; types 2 and 3 may have any but 0.
+const CHAINS: [usize; 8] = [3, 3, 3, 3, 1, 2, 1, 1];
+
+#[test]
+fn paths_and_chains_are_those_of_the_format() {
+    let sets = [
+        ("define e enum (s.k) { a = 1: u8 }", 1, 2..=2),
+        ("define e enum (s.k) { a = 1: u8 }", 2, 1..=4),
+        ("define a array [s.n] u8", 3, 1..=4),
+        ("define s struct { a: u8 }", 4, 1..=4),
+        ("define a array [s.n] u8", 5, 0..=0),
+        ("define j jagged array [s.n] u8", 6, 0..=0),
+        ("define j jagged array [s.n] u8", 7, 0..=0),
+        ("define j jagged array [s.n] u8", 8, 0..=0),
+    ];
+    for (text, kind, paths) in sets {
+        let due = CHAINS[usize::from(kind) - 1];
+        for path in 0..=4 {
+            for chain in 0..=4 {
+                let found = words(text, kind, 0, &[1, 2, 3, 4][..path], &[1, 2, 3, 4][..chain]);
+                let chain_fits = chain == due || ([2, 3].contains(&kind) && chain > 0);
+                let fits = paths.contains(&path) && chain_fits;
+                assert_eq!(
+                    !found.starts_with("refused"),
+                    fits,
+                    "{kind} {path} {chain}: {found}"
+                );
+            }
+        }
+    }
+}
+
+#[test]
+fn places_that_a_path_does_not_use_are_0() {
+    let report = |count: u8, second: u8| {
+        let body = [0x73, 0, 0, 1, 0, count, 2, 0, second, 0, 0, 0, 0, 0, 1, 0];
+        report::read(&[&[0x70, 1, 0], &body[..], &[0x7F, 1, 0]].concat())
+    };
+    assert!(report(1, 0)
+        .is_ok_and(|found| matches!(found, Report::Violations(list) if list[0].path == [2])));
+    assert!(report(2, 3).is_ok());
+    assert!(report(1, 3).unwrap_err().contains("byte 9"));
 }

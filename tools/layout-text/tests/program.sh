@@ -30,6 +30,13 @@ expect() {
   fi
 }
 
+# wrong TEXT ARGUMENTS: a wrong command, told in one line of less than 200 bytes.
+wrong() {
+  expect 3 "$@"
+  [ "$(wc -l < "$work/printed")" -eq 1 ] && [ "$(wc -c < "$work/printed")" -lt 200 ] ||
+    fail "$* is not told in one short line"
+}
+
 # lost PLACE TEXT ARGUMENTS: standard output goes to PLACE and cannot be written;
 # exit code 3 and one line that says so, or none for `-`.
 lost() {
@@ -109,12 +116,36 @@ expect 2 'Refused: short (2)' explain
 printf '\377' > "$work/input"
 expect 3 'byte 0 starts no letter' assemble
 expect 2 'byte 0: stranger (3)' show
-expect 3 'wrong argument' show --hex
+wrong 'wrong argument `--hex`' show --hex
 expect 3 'standard input is asked for twice' explain --names -
 expect 3 'standard input is asked for twice' explain "$work/bundle" --names - --report -
-expect 3 'usage' frob
 expect 0 'usage' help
+expect 0 'usage' --help
 expect 0 'usage' explain --help
+expect 3 'usage'
+wrong '`frob` is no verb' frob
+wrong '`--frob` is no verb' --frob explain
+wrong '`` is no verb' ''
+wrong '`extra` is one argument too many' help extra
+wrong '`extra` is one argument too many' assemble "$work/input" extra
+wrong 'wrong argument `--names`' help --names
+wrong '`--text` and `--bytes` are both given' explain --text --bytes
+wrong '`--text` and `--bytes` are both given' explain --bytes "$work/bundle" --text
+for option in --text --bytes --hex --as-given; do
+  wrong "\`$option\` is given twice" explain $option "$work/bundle" $option
+done
+for option in --names --report; do
+  wrong "\`$option\` is given twice" explain "$work/bundle" $option "$work/input" $option "$work/input"
+done
+rm -f "$work/first" "$work/second"
+wrong '`-o` is given twice' show "$work/bundle" -o "$work/first" -o "$work/second"
+[ ! -e "$work/first" ] && [ ! -e "$work/second" ] || fail 'a wrong command writes'
+wrong '`-o` needs a file' assemble -o
+wrong '`--as-given` is given without `--report`' explain "$work/bundle" --as-given
+long=$(printf '%0100000d' 0)
+wrong 'is no verb' "$long"
+wrong 'wrong argument `--000' show "--$long"
+wrong 'too many' show "$work/bundle" "$long"
 
 # What is text, and what are bytes.
 printf 'define trace jagged array [3u8] u8\n' > "$work/plain"
@@ -138,6 +169,27 @@ expect 2 'Refused: stranger (3)' explain "$work/plain"
 expect 2 'Refused: short (2)' explain "$work/plain"
 expect 0 '0 definitions, 0 edges' explain "$work/plain.layout"
 expect 0 'docs/PASS.md' explain "$work/plain.layout"
+
+# Text where bytes are due.
+cp samples/winch.layout "$work/text"
+expect 2 'where the header (60) is due; the file looks like text, which `assemble` takes' show "$work/text"
+head -c 40000 /dev/zero | tr '\000' '\n' > "$work/text"
+expect 2 'overlong (1): more than 32,768 bytes; there are 32769 bytes or more; the file looks like text' show "$work/text"
+printf '\377' > "$work/text"
+expect 2 'stranger (3)' show "$work/text"
+grep -q 'looks like text' "$work/printed" && fail 'bytes are taken for text'
+
+# Lines that end with a carriage return alone.
+printf '// a set\rdefine trace jagged array [3u8] u8 // the end\r' > "$work/plain"
+expect 1 'Definition 0 (line 2), jagged array `trace`' explain "$work/plain"
+
+# A message repeats the start of a long word only.
+{ printf 'define a array ['; head -c 4000000 /dev/zero | tr '\000' 7; printf '] u8'; } > "$work/digits"
+wrong '7777…` is no number of 64 bits' assemble "$work/digits"
+wrong '7777…` is no number of 64 bits' explain "$work/digits"
+{ printf 7; head -c 4000000 /dev/zero | tr '\000' 7; } > "$work/report"
+"$tool" assemble "$work/input" > "$work/bundle"
+wrong '7777…` is not made of pairs' explain "$work/bundle" --report "$work/report"
 
 # What cannot be read.
 for verb in assemble show explain; do
@@ -167,6 +219,45 @@ expect 0 '0 definitions' explain "$work/blank"
 echo >> "$work/blank"
 expect 3 'more than 4194304 bytes' explain "$work/blank"
 
+# Texts of the greatest length that need the most memory: many operators, groups and members.
+widest() {
+  awk -v kind="$1" 'BEGIN {
+    for (n = 1; n < 50; n++) row = row "+1"
+    for (n = 1; n < 50; n++) rows = rows "+(1" row ")"
+    for (n = 0; n < 56; n++) { open = open "a:union{"; shut = shut "}" }
+    member["rows"] = "a:array[(1" row ")" rows "]u8,"
+    member["groups"] = open shut ","
+    member["members"] = "a:u8,"
+    unit = member[kind]
+    printf "define a struct {"
+    for (left = 4194304 - 18; left >= length(unit); left -= length(unit)) printf "%s", unit
+    print "}"
+  }'
+}
+bounded() {
+  (ulimit -v 204800 && expect "$@" && [ "$failed" -eq 0 ]) || failed=1
+}
+widest rows > "$work/wide"
+bounded 0 'overlong (1)' assemble "$work/wide" -o "$work/wide.bundle"
+bounded 2 'overlong (1)' explain "$work/wide"
+bounded 2 'overlong (1)' explain "$work/wide" --names "$work/wide"
+widest groups > "$work/wide"
+bounded 2 'overlong (1)' explain "$work/wide"
+widest members > "$work/wide"
+bounded 3 '65,535' explain "$work/wide"
+# And a short one with a long answer: 5,000 violations, each with a chain of 1,025 long names.
+awk 'BEGIN {
+  long = sprintf("%040d", 0)
+  for (n = 1; n < 20; n++) row = row "+f"
+  print "current n0_" long
+  for (n = 0; n < 250; n++) print "define n1024_" long " array [f" row "] u8"
+  for (n = 0; n < 1024; n++) print "edge n" n "_" long " -> n" n + 1 "_" long " type"
+}' > "$work/wide"
+for option in --text --hex; do
+  (ulimit -v 204800 && "$tool" explain "$work/wide" $option > /dev/null 2> "$work/printed")
+  [ $? -eq 1 ] && [ ! -s "$work/printed" ] || fail "a long answer, $option"
+done
+
 # What cannot be written.
 { echo 'define #1 struct {'; awk 'BEGIN { for (n = 0; n < 8000; n++) print "#65535: u8" }'; echo '}'; } > "$work/input"
 "$tool" assemble "$work/input" > "$work/long"
@@ -187,5 +278,81 @@ lost pipe - show "$work/long"
 # A message that cannot be written leaves the exit code.
 "$tool" frob 2> /dev/full
 [ $? -eq 3 ] || fail 'a message onto a full device'
+
+# A report that is taken as given: said on standard error alone, and the library is not asked. The one that is linked here ends the
+# program when it is.
+cat > "$work/mute.rs" <<'MUTE'
+#![no_std]
+extern "C" {
+    fn abort() -> !;
+}
+#[no_mangle]
+pub unsafe extern "C" fn layout_accept() -> u8 {
+    abort()
+}
+#[no_mangle]
+pub unsafe extern "C" fn layout_report() -> u8 {
+    abort()
+}
+MUTE
+target=tools/layout-text/target
+rustc --edition 2021 -C panic=abort --crate-type lib --emit obj -o "$work/mute.o" "$work/mute.rs" &&
+  rustc --edition 2021 -L "$target" --extern layout --extern layout_text -C "link-arg=$work/mute.o" -o "$work/mute" \
+    tools/layout-text/src/main.rs || fail 'the program over a library without answers was not built'
+for sample in winch type-1-enum-forward refused-circle; do
+  "$work/mute" explain "samples/$sample.layout" --report "samples/$sample.report" --as-given > "$work/words" 2> "$work/printed"
+  cmp -s "$work/words" "samples/$sample.expected" || fail "the library is asked about $sample"
+  [ "$(cat "$work/printed")" = "samples/$sample.report: taken as given, not compared with the library's report" ] ||
+    fail "$sample: it is not said that the report was taken as given"
+  "$work/mute" explain "samples/$sample.layout" --report "samples/$sample.report" --as-given --hex 2> /dev/null |
+    cmp -s - "samples/$sample.report" || fail "the library is asked about $sample, --hex"
+done
+(ulimit -c 0; "$work/mute" explain samples/winch.layout; echo $? > "$work/code") > "$work/words" 2>&1
+[ "$(cat "$work/code")" -ge 128 ] || fail 'the library without answers was not linked'
+# Type 1 has a path of two names, and the places that a path does not use are 0.
+tr ' ' '\n' < samples/type-1-enum-forward.report > "$work/pairs"
+sed '9s/02/03/; 14s/00/01/' "$work/pairs" > "$work/report"
+expect 3 'no definition there fits' explain samples/type-1-enum-forward.layout --report "$work/report" --as-given
+expect 3 'no definition there fits' explain samples/type-1-enum-forward.layout --report "$work/report" --as-given --hex
+sed '14s/00/01/' "$work/pairs" > "$work/report"
+expect 3 'more places that are not 0' explain samples/type-1-enum-forward.layout --report "$work/report" --as-given
+
+# The scripts take a library whose path has a space. In this copy the compilers only write down what they are given, each argument
+# on a line.
+copy=$PWD/$work/a\ copy
+rm -rf "$copy"
+mkdir -p "$copy/bin" "$copy/tools/layout-text/tests" "$copy/bindings/rust" "$copy/samples"
+cp tools/layout-text/build.sh tools/layout-text/test.sh "$copy/tools/layout-text"
+cp bindings/rust/test.sh "$copy/bindings/rust"
+cp samples/check.sh samples/list.sh "$copy/samples"
+cat > "$copy/bin/rustc" <<RUSTC
+#!/bin/sh
+printf '%s\n' "\$@" >> "$copy/given"
+while [ \$# -gt 0 ]; do
+  [ "\$1" != -o ] || { printf '#!/bin/sh\n' > "\$2"; chmod +x "\$2"; }
+  shift
+done
+RUSTC
+printf '#!/bin/sh\n' > "$copy/tools/layout-text/tests/program.sh"
+chmod +x "$copy/bin/rustc" "$copy/tools/layout-text/tests/program.sh"
+cp "$copy/bin/rustc" "$copy/bin/cc"
+cp "$copy/bin/rustc" "$copy/bin/c++"
+cp "$copy/tools/layout-text/tests/program.sh" "$copy/tools/layout-text/tests/explain.sh"
+# script NAME COUNT: how often it links the library.
+script() {
+  : > "$copy/given"
+  # What is not in the copy stops the script behind its linking.
+  PATH=$copy/bin:$PATH LINK_FLAGS='-no-pie  -lm' "$copy/$1" "$copy/my library.a" > "$work/printed" 2>&1
+  for due in "link-arg=$copy/my library.a" link-arg=-no-pie link-arg=-lm; do
+    [ "$(grep -cxF -e "$due" "$copy/given")" -eq "$2" ] || fail "$1 does not link $due"
+  done
+}
+script tools/layout-text/build.sh 1
+script tools/layout-text/test.sh 2
+script samples/check.sh 1
+script bindings/rust/test.sh 1
+for due in "$copy/my library.a" -no-pie -lm; do
+  [ "$(grep -cxF -e "$due" "$copy/given")" -eq 1 ] || fail "bindings/rust/test.sh does not give cc $due"
+done
 [ "$failed" -eq 0 ] && echo "program: all as due"
 exit "$failed"

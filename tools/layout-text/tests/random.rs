@@ -7,7 +7,7 @@ use layout_text::explain::{explain, Source};
 use layout_text::names::Names;
 use layout_text::parse::parse;
 use layout_text::read::read;
-use layout_text::report;
+use layout_text::report::{self, Report};
 use layout_text::show::show;
 
 const ROUNDS: usize = 4_000;
@@ -93,7 +93,11 @@ fn every_answer_of_the_library_can_be_explained() {
             lines: Vec::new(),
         };
         let words = explain(&bytes, &report, &source).unwrap_or_else(|error| panic!("{error}"));
-        assert!(!words.contains('?'), "{words}");
+        let due = match &report {
+            Report::Violations(list) if !list.is_empty() => 1 + list.len(),
+            _ => 1,
+        };
+        assert_eq!(words.count(), due);
     }
 }
 
