@@ -1,19 +1,17 @@
-// The report of a bundle: its violations as bytes, or the number for which it is refused.
+// A report written where there is room for it.
 use bundle::Answer;
 use bundle::Layout;
 use validate::Position;
-ghost use mathlib.Core.Path.{_≡_};
 ghost use mathlib.Core.Bool.{true, false};
 ghost use Prim.Native.Nat.{_-_, _≤_};
 ghost use lib.ListN.{length, take, drop};
 ghost use Rattle.meaning.specs.Calls.{Call, result};
-ghost use Rattle.meaning.specs.Circle.{circles};
 ghost use Rattle.meaning.specs.Report.{report};
 ghost use Rattle.meaning.specs.Violations.{violations};
 ghost use Rattle.bundle.specs.Definitions.{bundleOf};
 ghost use Rattle.bundle.specs.Opened.{LayoutOf, answerMeant};
 ghost use Rattle.sizes.specs.Tests.{Acyclic, Kept};
-ghost use Rattle.chain.specs.Index.{Room, Workspace};
+ghost use Rattle.chain.specs.Index.{Workspace};
 ghost use Rattle.checks.specs.Checks.{EdgesPrepared};
 ghost use Rattle.violation.specs.Records.{Puts};
 
@@ -33,7 +31,7 @@ fn copy_records(draft: &[u8], end: usize, out: &mut [u8])
 
 // Writes the report, if there is room for all of it. A first run writes into a buffer of its own and counts, so that a refusal leaves
 // the places as they are. A report that fits there is copied; a longer one is written by a second run.
-fn write_report(
+pub fn write_report(
     s: &[u8],
     places: &[u16],
     layout: Layout,
@@ -107,56 +105,4 @@ fn write_report(
         start,
     );
     Answer::Accepted(written.at)
-}
-
-// The report of an opened bundle, with lists that have room for its edges. What they hold before is free.
-pub fn report_with(
-    s: &[u8],
-    places: &[u16],
-    layout: Layout,
-    names: &mut [u16],
-    table: &mut [u16],
-    ends: &mut [u16],
-    first: &mut [u16],
-    links: &mut [u16],
-    queue: &mut [u16],
-    parents: &mut [u16],
-    marks: &mut [u16],
-    out: &mut [u8],
-) -> Answer
-    requires { ⌜ Room (layout .edges) (now names) (now ends) (now first) (now links) × Workspace (layout .edges) (now queue) (now parents) ⌝ }
-    requires { ⌜ LayoutOf (now s) layout (now places) × (circles (bundleOf (now s)) ≡ false) ⌝ }
-    ensures { λ r. ⌜ Call (result (report (bundleOf (now (s .entry))))) (now (out .entry)) (now (out .exit)) (answerMeant r) ⌝ }
-{
-    let mut kept = [0u8; bundle::DEFINITIONS];
-    let mut nested = [0u8; bundle::DEFINITIONS];
-    let mut list = [0u16; bundle::CHAIN_LIMIT];
-    let m = chain::prepare(
-        s,
-        layout.edges_at,
-        layout.edges,
-        names,
-        table,
-        ends,
-        first,
-        links,
-    );
-    write_report(
-        s,
-        places,
-        layout,
-        &mut kept,
-        &mut nested,
-        names,
-        table,
-        ends,
-        first,
-        links,
-        m,
-        queue,
-        parents,
-        marks,
-        &mut list,
-        out,
-    )
 }

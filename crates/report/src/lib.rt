@@ -1,75 +1,9 @@
 // The report of a bundle: its violations as bytes, or the number for which it is refused.
 use bundle::Answer;
-use bundle::Layout;
 use bundle::Opening;
-ghost use mathlib.Core.Path.{_≡_};
-ghost use mathlib.Core.Bool.{false};
-ghost use Prim.Native.Nat.{_≤_};
-ghost use Rattle.meaning.specs.Calls.{Call, result};
-ghost use Rattle.meaning.specs.Circle.{circles};
+ghost use Rattle.meaning.specs.Calls.{Call};
 ghost use Rattle.meaning.specs.Due.{reporting};
-ghost use Rattle.meaning.specs.Report.{report};
-ghost use Rattle.bundle.specs.Definitions.{bundleOf};
-ghost use Rattle.bundle.specs.Opened.{LayoutOf, answerMeant};
-
-// The report of an opened bundle with few edges, with short lists.
-fn report_few(s: &[u8], places: &[u16], layout: Layout, out: &mut [u8]) -> Answer
-    requires { ⌜ layout .edges ≤ 64 ⌝ }
-    requires { ⌜ LayoutOf (now s) layout (now places) × (circles (bundleOf (now s)) ≡ false) ⌝ }
-    ensures { λ r. ⌜ Call (result (report (bundleOf (now (s .entry))))) (now (out .entry)) (now (out .exit)) (answerMeant r) ⌝ }
-{
-    let mut names = [0u16; chain::FEW_ENDS];
-    let mut table = [0u16; chain::FEW_NAMES];
-    let mut ends = [0u16; chain::FEW_ENDS];
-    let mut first = [0u16; chain::FEW_ENDS];
-    let mut links = [0u16; chain::FEW_EDGES];
-    let mut queue = [0u16; chain::FEW_CHAIN];
-    let mut parents = [0u16; chain::FEW_CHAIN];
-    let mut marks = [0u16; chain::FEW_ENDS];
-    draft::report_with(
-        s,
-        places,
-        layout,
-        &mut names,
-        &mut table,
-        &mut ends,
-        &mut first,
-        &mut links,
-        &mut queue,
-        &mut parents,
-        &mut marks,
-        out,
-    )
-}
-
-// The report of an opened bundle, with a table for every name of an edge.
-fn report_many(s: &[u8], places: &[u16], layout: Layout, out: &mut [u8]) -> Answer
-    requires { ⌜ LayoutOf (now s) layout (now places) × (circles (bundleOf (now s)) ≡ false) ⌝ }
-    ensures { λ r. ⌜ Call (result (report (bundleOf (now (s .entry))))) (now (out .entry)) (now (out .exit)) (answerMeant r) ⌝ }
-{
-    let mut names = [0u16; bundle::ENDS];
-    let mut table = [0u16; bundle::NAMES];
-    let mut ends = [0u16; bundle::ENDS];
-    let mut first = [0u16; bundle::ENDS];
-    let mut links = [0u16; bundle::EDGES];
-    let mut queue = [0u16; bundle::CHAIN_LIMIT];
-    let mut parents = [0u16; bundle::CHAIN_LIMIT];
-    let mut marks = [0u16; bundle::ENDS];
-    draft::report_with(
-        s,
-        places,
-        layout,
-        &mut names,
-        &mut table,
-        &mut ends,
-        &mut first,
-        &mut links,
-        &mut queue,
-        &mut parents,
-        &mut marks,
-        out,
-    )
-}
+ghost use Rattle.bundle.specs.Opened.{answerMeant};
 
 // Writes the report of a bundle of any length, with a place for every name.
 fn report_long(bundle: &[u8], out: &mut [u8]) -> Answer
@@ -78,7 +12,7 @@ fn report_long(bundle: &[u8], out: &mut [u8]) -> Answer
     let mut places = [0u16; bundle::PLACES_BY_NAME];
     let opening = acceptance::open(bundle, &mut places);
     match opening {
-        Opening::Opened(layout) => report_many(bundle, &places, layout, out),
+        Opening::Opened(layout) => report_opened::report_many(bundle, &places, layout, out),
         Opening::Refused(k) => Answer::Refused(k),
     }
 }
@@ -97,7 +31,7 @@ pub fn report(bundle: &[u8], out: &mut [u8]) -> Answer
     match opening {
         Opening::Opened(layout) => {
             if layout.edges <= chain::FEW_EDGES {
-                report_few(bundle, &places, layout, out)
+                report_opened::report_few(bundle, &places, layout, out)
             } else {
                 report_long(bundle, out)
             }

@@ -53,6 +53,7 @@ use Rattle.bundle.proofs.LookupLaws.{placed-at, place-there}
 use Rattle.bundle.proofs.LeadLaws.{primitive-leads, typeRef-there, typeRef-next, typeRef-leads, struct-leads, union-leads, sizeUnion-leads, enum-leads, array-leads}
 use Rattle.bundle.proofs.PartTrees.{group-no, enum-no, tag-no, array-no, size-no, head-no, member-type-reads}
 use Rattle.bundle.proofs.LeadLaws.{marks-same, place-below, place-less, walk-starts, walk-ends, name-none, name-marks, name-walked, Walking, walking-start, walking-inside, walking-next, walking-end}
+use Rattle.bundle.specs.declared.Form.the-variants.{OfType}
 
 abbrev μ-walk-array : Measures 3 walk-array-kinds.ps ℕ
 μ-walk-array κs a = 104 * unwalked (now (a .1 .1 .1 .0)) + 4 * a .1 .1 .1 .1 .1 .0 + 3
@@ -422,7 +423,7 @@ walk-type-enum-told-2 : Ask-walk-type walk-type-lts.Need-enum-told-2
 walk-type-enum-told-2 t c = search needs
 
 walk-type-walk-name-requires : Ask-walk-type walk-type-lts.Need-walk-name-requires
-walk-type-walk-name-requires t c κs = (omega (arith, type-deep _ _ _ (c .before .before .before .before .before .before .before .before .before .before .pre .1 .1 .0), c .before .before .before .before .before .before .before .before .before .before .pre .0), (typeRef-there (opened t (c .before .before .before .before .before .before)) (c .before .before .before .before .before .before .before .before .before .before .pre .1 .1 .0) (typeRef-meant (cc)), c .before .before .before .before .before .before .before .before .before .before .pre .1 .0, (tt, marks-same (typeRef-leads _ (opened t (c .before .before .before .before .before .before)) (c .before .before .before .before .before .before .before .before .before .before .pre .1 .1 .0) (typeRef-meant (cc))) (c .before .before .before .before .before .before .before .before .before .before .pre .1 .1 .1))))
+walk-type-walk-name-requires t c κs = (omega (arith, type-deep _ _ _ (c .before .before .before .before .before .before .before .before .before .before .pre .1 .1 .0), c .before .before .before .before .before .before .before .before .before .before .pre .0), (typeRef-there (opened t (c .before .before .before .before .before .before)) (c .before .before .before .before .before .before .before .before .before .before .pre .1 .1 .0) (typeRef-meant (c .before .before .before .before .form .given .1 ∙ ap OfType (c .before .enum-told2 .given .1))), c .before .before .before .before .before .before .before .before .before .before .pre .1 .0, (tt, marks-same (typeRef-leads _ (opened t (c .before .before .before .before .before .before)) (c .before .before .before .before .before .before .before .before .before .before .pre .1 .1 .0) (typeRef-meant (c .before .before .before .before .form .given .1 ∙ ap OfType (c .before .enum-told2 .given .1)))) (c .before .before .before .before .before .before .before .before .before .before .pre .1 .1 .1))))
 
 walk-type-rebuilt-requires : Ask-walk-type walk-type-lts.Need-rebuilt-requires
 walk-type-rebuilt-requires t c κs = search needs
@@ -434,7 +435,7 @@ walk-type-sub-walk-group : Ask-walk-type walk-type-lts.Need-sub-walk-group
 walk-type-sub-walk-group t c = omega (arith, type-deep _ _ _ (c .before .before .before .before .before .before .before .before .before .before .pre .1 .1 .0), c .before .before .before .before .before .before .before .before .before .before .pre .0)
 
 walk-type-walk-group-requires : Ask-walk-type walk-type-lts.Need-walk-group-requires
-walk-type-walk-group-requires t c κs = (omega (arith, type-deep _ _ _ (c .before .before .before .before .before .before .before .before .before .before .pre .1 .1 .0), c .before .before .before .before .before .before .before .before .before .before .pre .0), (omega (arith, type-there _ _ _ (c .before .before .before .before .before .before .before .before .before .before .pre .1 .1 .0)), c .before .before .before .before .before .before .before .before .before .before .pre .1 .0, (struct-reads (opened t (c .before .before .before .before .before .before)) (c .before .before .before .before .before .before .before .before .before .before .pre .1 .1 .0) (struct-meant (cc)), marks-same (struct-leads _ (opened t (c .before .before .before .before .before .before)) (c .before .before .before .before .before .before .before .before .before .before .pre .1 .1 .0) (struct-meant (cc))) (c .before .before .before .before .before .before .before .before .before .before .pre .1 .1 .1))))
+walk-type-walk-group-requires t c κs = (omega (arith, type-deep _ _ _ (c .before .before .before .before .before .before .before .before .before .before .pre .1 .1 .0), c .before .before .before .before .before .before .before .before .before .before .pre .0), (omega (arith, type-there _ _ _ (c .before .before .before .before .before .before .before .before .before .before .pre .1 .1 .0)), c .before .before .before .before .before .before .before .before .before .before .pre .1 .0, (struct-reads (opened t (c .before .before .before .before .before .before)) (c .before .before .before .before .before .before .before .before .before .before .pre .1 .1 .0) (struct-meant (c .before .before .before .before .form .given .1 ∙ ap OfType (c .before .enum-told3 .given .1))), marks-same (struct-leads _ (opened t (c .before .before .before .before .before .before)) (c .before .before .before .before .before .before .before .before .before .before .pre .1 .1 .0) (struct-meant (c .before .before .before .before .form .given .1 ∙ ap OfType (c .before .enum-told3 .given .1)))) (c .before .before .before .before .before .before .before .before .before .before .pre .1 .1 .1))))
 
 walk-type-rebuilt-requires-2 : Ask-walk-type walk-type-lts.Need-rebuilt-requires-2
 walk-type-rebuilt-requires-2 t c κs = search needs
@@ -446,7 +447,7 @@ walk-type-sub-walk-group-2 : Ask-walk-type walk-type-lts.Need-sub-walk-group-2
 walk-type-sub-walk-group-2 t c = omega (arith, type-deep _ _ _ (c .before .before .before .before .before .before .before .before .before .before .pre .1 .1 .0), c .before .before .before .before .before .before .before .before .before .before .pre .0)
 
 walk-type-walk-group-requires-2 : Ask-walk-type walk-type-lts.Need-walk-group-requires-2
-walk-type-walk-group-requires-2 t c κs = (omega (arith, type-deep _ _ _ (c .before .before .before .before .before .before .before .before .before .before .pre .1 .1 .0), c .before .before .before .before .before .before .before .before .before .before .pre .0), (omega (arith, type-there _ _ _ (c .before .before .before .before .before .before .before .before .before .before .pre .1 .1 .0)), c .before .before .before .before .before .before .before .before .before .before .pre .1 .0, (union-reads (opened t (c .before .before .before .before .before .before)) (c .before .before .before .before .before .before .before .before .before .before .pre .1 .1 .0) (union-meant (cc)), marks-same (union-leads _ (opened t (c .before .before .before .before .before .before)) (c .before .before .before .before .before .before .before .before .before .before .pre .1 .1 .0) (union-meant (cc))) (c .before .before .before .before .before .before .before .before .before .before .pre .1 .1 .1))))
+walk-type-walk-group-requires-2 t c κs = (omega (arith, type-deep _ _ _ (c .before .before .before .before .before .before .before .before .before .before .pre .1 .1 .0), c .before .before .before .before .before .before .before .before .before .before .pre .0), (omega (arith, type-there _ _ _ (c .before .before .before .before .before .before .before .before .before .before .pre .1 .1 .0)), c .before .before .before .before .before .before .before .before .before .before .pre .1 .0, (union-reads (opened t (c .before .before .before .before .before .before)) (c .before .before .before .before .before .before .before .before .before .before .pre .1 .1 .0) (union-meant (c .before .before .before .before .form .given .1 ∙ ap OfType (c .before .enum-told4 .given .1))), marks-same (union-leads _ (opened t (c .before .before .before .before .before .before)) (c .before .before .before .before .before .before .before .before .before .before .pre .1 .1 .0) (union-meant (c .before .before .before .before .form .given .1 ∙ ap OfType (c .before .enum-told4 .given .1)))) (c .before .before .before .before .before .before .before .before .before .before .pre .1 .1 .1))))
 
 walk-type-rebuilt-requires-3 : Ask-walk-type walk-type-lts.Need-rebuilt-requires-3
 walk-type-rebuilt-requires-3 t c κs = search needs
@@ -458,7 +459,7 @@ walk-type-sub-walk-enum : Ask-walk-type walk-type-lts.Need-sub-walk-enum
 walk-type-sub-walk-enum t c = omega (arith, type-deep _ _ _ (c .before .before .before .before .before .before .before .before .before .before .pre .1 .1 .0), c .before .before .before .before .before .before .before .before .before .before .pre .0)
 
 walk-type-walk-enum-requires : Ask-walk-type walk-type-lts.Need-walk-enum-requires
-walk-type-walk-enum-requires t c κs = (omega (arith, type-deep _ _ _ (c .before .before .before .before .before .before .before .before .before .before .pre .1 .1 .0), c .before .before .before .before .before .before .before .before .before .before .pre .0), (omega (arith, type-there _ _ _ (c .before .before .before .before .before .before .before .before .before .before .pre .1 .1 .0)), c .before .before .before .before .before .before .before .before .before .before .pre .1 .0, (enum-reads (opened t (c .before .before .before .before .before .before)) (c .before .before .before .before .before .before .before .before .before .before .pre .1 .1 .0) (enum-meant (cc)), marks-same (ap (typeLeads _) (enum-tree (opened t (c .before .before .before .before .before .before)) (c .before .before .before .before .before .before .before .before .before .before .pre .1 .1 .0) (enum-meant (cc)))) (c .before .before .before .before .before .before .before .before .before .before .pre .1 .1 .1))))
+walk-type-walk-enum-requires t c κs = (omega (arith, type-deep _ _ _ (c .before .before .before .before .before .before .before .before .before .before .pre .1 .1 .0), c .before .before .before .before .before .before .before .before .before .before .pre .0), (omega (arith, type-there _ _ _ (c .before .before .before .before .before .before .before .before .before .before .pre .1 .1 .0)), c .before .before .before .before .before .before .before .before .before .before .pre .1 .0, (enum-reads (opened t (c .before .before .before .before .before .before)) (c .before .before .before .before .before .before .before .before .before .before .pre .1 .1 .0) (enum-meant (c .before .before .before .before .form .given .1 ∙ ap OfType (c .before .enum-told5 .given .1))), marks-same (ap (typeLeads _) (enum-tree (opened t (c .before .before .before .before .before .before)) (c .before .before .before .before .before .before .before .before .before .before .pre .1 .1 .0) (enum-meant (c .before .before .before .before .form .given .1 ∙ ap OfType (c .before .enum-told5 .given .1))))) (c .before .before .before .before .before .before .before .before .before .before .pre .1 .1 .1))))
 
 walk-type-rebuilt-requires-4 : Ask-walk-type walk-type-lts.Need-rebuilt-requires-4
 walk-type-rebuilt-requires-4 t c κs = search needs
@@ -470,7 +471,7 @@ walk-type-sub-walk-array : Ask-walk-type walk-type-lts.Need-sub-walk-array
 walk-type-sub-walk-array t c = omega (arith, type-deep _ _ _ (c .before .before .before .before .before .before .before .before .before .before .pre .1 .1 .0), c .before .before .before .before .before .before .before .before .before .before .pre .0)
 
 walk-type-walk-array-requires : Ask-walk-type walk-type-lts.Need-walk-array-requires
-walk-type-walk-array-requires t c κs = (omega (arith, type-deep _ _ _ (c .before .before .before .before .before .before .before .before .before .before .pre .1 .1 .0), c .before .before .before .before .before .before .before .before .before .before .pre .0), (omega (arith, type-there _ _ _ (c .before .before .before .before .before .before .before .before .before .before .pre .1 .1 .0)), c .before .before .before .before .before .before .before .before .before .before .pre .1 .0, (array-reads (opened t (c .before .before .before .before .before .before)) (c .before .before .before .before .before .before .before .before .before .before .pre .1 .1 .0) (array-meant (cc)), marks-same (ap (typeLeads _) (array-tree (opened t (c .before .before .before .before .before .before)) (c .before .before .before .before .before .before .before .before .before .before .pre .1 .1 .0) (array-meant (cc)))) (c .before .before .before .before .before .before .before .before .before .before .pre .1 .1 .1))))
+walk-type-walk-array-requires t c κs = (omega (arith, type-deep _ _ _ (c .before .before .before .before .before .before .before .before .before .before .pre .1 .1 .0), c .before .before .before .before .before .before .before .before .before .before .pre .0), (omega (arith, type-there _ _ _ (c .before .before .before .before .before .before .before .before .before .before .pre .1 .1 .0)), c .before .before .before .before .before .before .before .before .before .before .pre .1 .0, (array-reads (opened t (c .before .before .before .before .before .before)) (c .before .before .before .before .before .before .before .before .before .before .pre .1 .1 .0) (array-meant (c .before .before .before .before .form .given .1 ∙ ap OfType (c .before .enum-told6 .given .1))), marks-same (ap (typeLeads _) (array-tree (opened t (c .before .before .before .before .before .before)) (c .before .before .before .before .before .before .before .before .before .before .pre .1 .1 .0) (array-meant (c .before .before .before .before .form .given .1 ∙ ap OfType (c .before .enum-told6 .given .1))))) (c .before .before .before .before .before .before .before .before .before .before .pre .1 .1 .1))))
 
 walk-type-rebuilt-requires-5 : Ask-walk-type walk-type-lts.Need-rebuilt-requires-5
 walk-type-rebuilt-requires-5 t c κs = search needs
@@ -482,31 +483,31 @@ walk-type-sub-walk-group-3 : Ask-walk-type walk-type-lts.Need-sub-walk-group-3
 walk-type-sub-walk-group-3 t c = omega (arith, type-deep _ _ _ (c .before .before .before .before .before .before .before .before .before .before .pre .1 .1 .0), c .before .before .before .before .before .before .before .before .before .before .pre .0)
 
 walk-type-walk-group-requires-3 : Ask-walk-type walk-type-lts.Need-walk-group-requires-3
-walk-type-walk-group-requires-3 t c κs = (omega (arith, type-deep _ _ _ (c .before .before .before .before .before .before .before .before .before .before .pre .1 .1 .0), c .before .before .before .before .before .before .before .before .before .before .pre .0), (omega (arith, type-there _ _ _ (c .before .before .before .before .before .before .before .before .before .before .pre .1 .1 .0)), c .before .before .before .before .before .before .before .before .before .before .pre .1 .0, (sizeUnion-reads (opened t (c .before .before .before .before .before .before)) (c .before .before .before .before .before .before .before .before .before .before .pre .1 .1 .0) (sizeUnion-meant (cc)), marks-same (sizeUnion-leads _ (opened t (c .before .before .before .before .before .before)) (c .before .before .before .before .before .before .before .before .before .before .pre .1 .1 .0) (sizeUnion-meant (cc))) (c .before .before .before .before .before .before .before .before .before .before .pre .1 .1 .1))))
+walk-type-walk-group-requires-3 t c κs = (omega (arith, type-deep _ _ _ (c .before .before .before .before .before .before .before .before .before .before .pre .1 .1 .0), c .before .before .before .before .before .before .before .before .before .before .pre .0), (omega (arith, type-there _ _ _ (c .before .before .before .before .before .before .before .before .before .before .pre .1 .1 .0)), c .before .before .before .before .before .before .before .before .before .before .pre .1 .0, (sizeUnion-reads (opened t (c .before .before .before .before .before .before)) (c .before .before .before .before .before .before .before .before .before .before .pre .1 .1 .0) (sizeUnion-meant (c .before .before .before .before .form .given .1 ∙ ap OfType (c .before .enum-told7 .given .1))), marks-same (sizeUnion-leads _ (opened t (c .before .before .before .before .before .before)) (c .before .before .before .before .before .before .before .before .before .before .pre .1 .1 .0) (sizeUnion-meant (c .before .before .before .before .form .given .1 ∙ ap OfType (c .before .enum-told7 .given .1)))) (c .before .before .before .before .before .before .before .before .before .before .pre .1 .1 .1))))
 
 walk-type-rebuilt-requires-6 : Ask-walk-type walk-type-lts.Need-rebuilt-requires-6
 walk-type-rebuilt-requires-6 t c κs = search needs
 
 walk-type-returns-2 : Ask-walk-type walk-type-lts.Need-returns-2
-walk-type-returns-2 t c = ended (sym (primitive-ends (opened t (c .before .before .before .before .before)) (primitive-meant (cc)))) (rw (primitive-leads _ (opened t (c .before .before .before .before .before)) (c .before .before .before .before .before .before .before .before .before .pre .1 .1 .0) (primitive-meant (cc))) (followed-none (c .before .before .before .before .before .before .before .before .before .pre .1 .1 .1)))
+walk-type-returns-2 t c = ended (sym (primitive-ends (opened t (c .before .before .before .before .before)) (primitive-meant (c .before .before .before .form .given .1 ∙ ap OfType (c .enum-told .given .1))))) (rw (primitive-leads _ (opened t (c .before .before .before .before .before)) (c .before .before .before .before .before .before .before .before .before .pre .1 .1 .0) (primitive-meant (c .before .before .before .form .given .1 ∙ ap OfType (c .enum-told .given .1)))) (followed-none (c .before .before .before .before .before .before .before .before .before .pre .1 .1 .1)))
 
 walk-type-returns-3 : Ask-walk-type walk-type-lts.Need-returns-3
-walk-type-returns-3 t c = rw (c .rebuilt .ensures) (walked-same _ _ (typeRef-leads _ (opened t (c .before .before .before .before .before .before .before .before)) (c .before .before .before .before .before .before .before .before .before .before .before .before .pre .1 .1 .0) (typeRef-meant (cc))) (typeRef-next (opened t (c .before .before .before .before .before .before .before .before)) (c .before .before .before .before .before .before .before .before .before .before .before .before .pre .1 .1 .0) (typeRef-meant (cc))) (c .before .walk-name .ensures))
+walk-type-returns-3 t c = rw (c .rebuilt .ensures) (walked-same _ _ (typeRef-leads _ (opened t (c .before .before .before .before .before .before .before .before)) (c .before .before .before .before .before .before .before .before .before .before .before .before .pre .1 .1 .0) (typeRef-meant (c .before .before .before .before .before .before .form .given .1 ∙ ap OfType (c .before .before .before .enum-told2 .given .1)))) (typeRef-next (opened t (c .before .before .before .before .before .before .before .before)) (c .before .before .before .before .before .before .before .before .before .before .before .before .pre .1 .1 .0) (typeRef-meant (c .before .before .before .before .before .before .form .given .1 ∙ ap OfType (c .before .before .before .enum-told2 .given .1)))) (c .before .walk-name .ensures))
 
 walk-type-returns-4 : Ask-walk-type walk-type-lts.Need-returns-4
-walk-type-returns-4 t c = rw (c .rebuilt2 .ensures) (walked-same _ _ (struct-leads _ (opened t (c .before .before .before .before .before .before .before .before)) (c .before .before .before .before .before .before .before .before .before .before .before .before .pre .1 .1 .0) (struct-meant (cc))) (struct-ends (opened t (c .before .before .before .before .before .before .before .before)) (struct-meant (cc))) (c .before .walk-group .ensures))
+walk-type-returns-4 t c = rw (c .rebuilt2 .ensures) (walked-same _ _ (struct-leads _ (opened t (c .before .before .before .before .before .before .before .before)) (c .before .before .before .before .before .before .before .before .before .before .before .before .pre .1 .1 .0) (struct-meant (c .before .before .before .before .before .before .form .given .1 ∙ ap OfType (c .before .before .before .enum-told3 .given .1)))) (struct-ends (opened t (c .before .before .before .before .before .before .before .before)) (struct-meant (c .before .before .before .before .before .before .form .given .1 ∙ ap OfType (c .before .before .before .enum-told3 .given .1)))) (c .before .walk-group .ensures))
 
 walk-type-returns-5 : Ask-walk-type walk-type-lts.Need-returns-5
-walk-type-returns-5 t c = rw (c .rebuilt3 .ensures) (walked-same _ _ (union-leads _ (opened t (c .before .before .before .before .before .before .before .before)) (c .before .before .before .before .before .before .before .before .before .before .before .before .pre .1 .1 .0) (union-meant (cc))) (union-ends (opened t (c .before .before .before .before .before .before .before .before)) (union-meant (cc))) (c .before .walk-group2 .ensures))
+walk-type-returns-5 t c = rw (c .rebuilt3 .ensures) (walked-same _ _ (union-leads _ (opened t (c .before .before .before .before .before .before .before .before)) (c .before .before .before .before .before .before .before .before .before .before .before .before .pre .1 .1 .0) (union-meant (c .before .before .before .before .before .before .form .given .1 ∙ ap OfType (c .before .before .before .enum-told4 .given .1)))) (union-ends (opened t (c .before .before .before .before .before .before .before .before)) (union-meant (c .before .before .before .before .before .before .form .given .1 ∙ ap OfType (c .before .before .before .enum-told4 .given .1)))) (c .before .walk-group2 .ensures))
 
 walk-type-returns-6 : Ask-walk-type walk-type-lts.Need-returns-6
-walk-type-returns-6 t c = rw (c .rebuilt4 .ensures) (walked-same _ _ (ap (typeLeads _) (enum-tree (opened t (c .before .before .before .before .before .before .before .before)) (c .before .before .before .before .before .before .before .before .before .before .before .before .pre .1 .1 .0) (enum-meant (cc)))) (enum-ends (opened t (c .before .before .before .before .before .before .before .before)) (enum-meant (cc))) (c .before .walk-enum .ensures))
+walk-type-returns-6 t c = rw (c .rebuilt4 .ensures) (walked-same _ _ (ap (typeLeads _) (enum-tree (opened t (c .before .before .before .before .before .before .before .before)) (c .before .before .before .before .before .before .before .before .before .before .before .before .pre .1 .1 .0) (enum-meant (c .before .before .before .before .before .before .form .given .1 ∙ ap OfType (c .before .before .before .enum-told5 .given .1))))) (enum-ends (opened t (c .before .before .before .before .before .before .before .before)) (enum-meant (c .before .before .before .before .before .before .form .given .1 ∙ ap OfType (c .before .before .before .enum-told5 .given .1)))) (c .before .walk-enum .ensures))
 
 walk-type-returns-7 : Ask-walk-type walk-type-lts.Need-returns-7
-walk-type-returns-7 t c = rw (c .rebuilt5 .ensures) (walked-same _ _ (ap (typeLeads _) (array-tree (opened t (c .before .before .before .before .before .before .before .before)) (c .before .before .before .before .before .before .before .before .before .before .before .before .pre .1 .1 .0) (array-meant (cc)))) (array-ends (opened t (c .before .before .before .before .before .before .before .before)) (array-meant (cc))) (c .before .walk-array .ensures))
+walk-type-returns-7 t c = rw (c .rebuilt5 .ensures) (walked-same _ _ (ap (typeLeads _) (array-tree (opened t (c .before .before .before .before .before .before .before .before)) (c .before .before .before .before .before .before .before .before .before .before .before .before .pre .1 .1 .0) (array-meant (c .before .before .before .before .before .before .form .given .1 ∙ ap OfType (c .before .before .before .enum-told6 .given .1))))) (array-ends (opened t (c .before .before .before .before .before .before .before .before)) (array-meant (c .before .before .before .before .before .before .form .given .1 ∙ ap OfType (c .before .before .before .enum-told6 .given .1)))) (c .before .walk-array .ensures))
 
 walk-type-returns-8 : Ask-walk-type walk-type-lts.Need-returns-8
-walk-type-returns-8 t c = rw (c .rebuilt6 .ensures) (walked-same _ _ (sizeUnion-leads _ (opened t (c .before .before .before .before .before .before .before .before)) (c .before .before .before .before .before .before .before .before .before .before .before .before .pre .1 .1 .0) (sizeUnion-meant (cc))) (sizeUnion-ends (opened t (c .before .before .before .before .before .before .before .before)) (sizeUnion-meant (cc))) (c .before .walk-group3 .ensures))
+walk-type-returns-8 t c = rw (c .rebuilt6 .ensures) (walked-same _ _ (sizeUnion-leads _ (opened t (c .before .before .before .before .before .before .before .before)) (c .before .before .before .before .before .before .before .before .before .before .before .before .pre .1 .1 .0) (sizeUnion-meant (c .before .before .before .before .before .before .form .given .1 ∙ ap OfType (c .before .before .before .enum-told7 .given .1)))) (sizeUnion-ends (opened t (c .before .before .before .before .before .before .before .before)) (sizeUnion-meant (c .before .before .before .before .before .before .form .given .1 ∙ ap OfType (c .before .before .before .enum-told7 .given .1)))) (c .before .walk-group3 .ensures))
 
 pub +walk-array+walk-definition+walk-enum+walk-group+walk-members+walk-name+walk-type-spec :
     {M : Type 1} → statement M

@@ -1,4 +1,4 @@
--- `report::report` meets its contract: that of `report_long`, or as there with short lists.
+-- `reporting::report` meets its contract: that of `report_long`, or as there with short lists.
 use borrow.Author.Needs.{needs}
 use Rattle.report.proofs.report.Statement.{statement}
 use Rattle.report.proofs.report.Tie as tie

@@ -1,4 +1,4 @@
--- `report::report_long` meets its contract: what the bytes are refused for, or the report of the bundle that they are.
+-- `reporting::report_long` meets its contract: what the bytes are refused for, or the report of the bundle that they are.
 use borrow.Author.Needs.{needs}
 use Rattle.report.proofs.report_long.Statement.{statement}
 use Rattle.report.proofs.report_long.Tie as tie

@@ -1,12 +1,12 @@
 use borrow.Author.Needs.{needs}
-use Rattle.draft.proofs.report_with.Statement.{statement}
-use Rattle.draft.proofs.report_with.Tie as tie
+use Rattle.report_opened.proofs.report_with.Statement.{statement}
+use Rattle.report_opened.proofs.report_with.Tie as tie
 use Prim.Native.Nat.{ℕ}
 use native.Mathlib.Omega.{arith}
 use lib.ListN.{length-replicate}
 use Rattle.sizes.proofs.TestLaws.{kept-start}
 use Rattle.chain.proofs.Called.{has-edges}
 use Rattle.draft.proofs.Reporting.{read-few}
 
 prepare-requires : tie.Need-prepare-requires
 prepare-requires c κs = (has-edges (c .before .before .before .before .before .before .before .before .before .before .before .before .before .before .before .before .pre .1 .0), c .before .before .before .before .before .before .before .before .before .before .before .before .before .before .before .before .pre .0 .0)

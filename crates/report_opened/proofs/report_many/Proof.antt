@@ -1,6 +1,6 @@
 use borrow.Author.Needs.{needs}
-use Rattle.report.proofs.report_many.Statement.{statement}
-use Rattle.report.proofs.report_many.Tie as tie
+use Rattle.report_opened.proofs.report_many.Statement.{statement}
+use Rattle.report_opened.proofs.report_many.Tie as tie
 use Prim.Native.Nat.{ℕ}
 use native.Mathlib.Omega.{arith}
 use lib.ListN.{length-replicate}
