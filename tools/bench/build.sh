@@ -16,13 +16,13 @@ if [ "$library" = "$standin" ] && [ ! -f "$standin" ]; then
 fi
 mkdir -p "$target"
 
-linked="-C link-arg=$library"
+set -- -C "link-arg=$library"
 for flag in ${LINK_FLAGS:-}; do
-  linked="$linked -C link-arg=$flag"
+  set -- "$@" -C "link-arg=$flag"
 done
 compile() {
   rustc --edition 2021 -C opt-level=3 -C codegen-units=1 -L "$target" -L tools/oracle/target "$@"
 }
 compile --crate-type rlib --crate-name layout --out-dir "$target" bindings/rust/src/lib.rs
 compile --crate-type bin --crate-name bench --extern layout --extern layout_oracle \
-  $linked -o "$target/bench" tools/bench/src/main.rs
+  "$@" -o "$target/bench" tools/bench/src/main.rs
