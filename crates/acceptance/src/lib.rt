@@ -203,7 +203,7 @@ fn walk_name(
     ensures { λ r. ⌜ TypeWalked (now (s .entry)) (ok (typeRef (little (now (s .entry)) at 2)) (at + 2)) (now (marks .entry)) (now (marks .exit)) r ⌝ }
 {
     let name = bundle::u16_at(s, at);
-    let i = bundle::definition_of(s, places, count, name);
+    let i = lookup::definition_of(s, places, count, name);
     if count <= i {
         return Step::Next(at + 2);
     }

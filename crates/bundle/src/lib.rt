@@ -8,9 +8,7 @@ ghost use Rattle.meaning.specs.ReadExpr.{body, readExpr};
 ghost use Rattle.meaning.specs.ReadType.{head, arrayHead, memberHead, readTy, readMember, readMembers, readGroup, readEnum, readArray};
 ghost use Rattle.meaning.specs.ReadBundle.{opening, readDefinition, readHeader};
 ghost use Rattle.meaning.specs.Reader.{little};
-ghost use Rattle.meaning.specs.Lookup.{definitionOf};
 ghost use Rattle.bundle.specs.View.{formMeant, operandsOf, stepOf, countOf, countsOf};
-ghost use Rattle.bundle.specs.Definitions.{bundleOf, Table};
 
 // What an expression's kind byte fixes: its body and what follows. A literal has its body length, a field reference its
 // count of names.
@@ -465,38 +463,4 @@ pub fn header_at(s: &[u8]) -> Counts
         }
         Step::Refused(k) => Counts::Bad(k),
     }
-}
-
-// The number of the first definition of a name, and the count of definitions where there is none, by looking at each.
-fn scan_definitions(s: &[u8], places: &[u16], count: usize, name: u16) -> usize
-    requires { ⌜ Table (now s) count (now places) ⌝ }
-    ensures { λ r. ⌜ r ≡ definitionOf (bundleOf (now (s .entry))) name ⌝ }
-{
-    let mut i = 0;
-    while i < count {
-        let at = places[i] as usize;
-        if u16_at(s, at - 2) == name {
-            return i;
-        }
-        i += 1;
-    }
-    i
-}
-
-// The same. Where `places` is long enough for the name, one look is enough: what is noted for a name without definition leads to
-// one of another name, or to none.
-pub fn definition_of(s: &[u8], places: &[u16], count: usize, name: u16) -> usize
-    requires { ⌜ Table (now s) count (now places) ⌝ }
-    ensures { λ r. ⌜ r ≡ definitionOf (bundleOf (now (s .entry))) name ⌝ }
-{
-    let place = PLACES + (name as usize);
-    if places.len() <= place {
-        return scan_definitions(s, places, count, name);
-    }
-    let i = places[place] as usize;
-    if count <= i {
-        return count;
-    }
-    let at = places[i] as usize;
-    if u16_at(s, at - 2) == name { i } else { count }
 }

@@ -231,7 +231,7 @@ pub fn is_enum_referencing_same_container_struct(
     requires { ⌜ Table (now s) count (now places) ⌝ }
     ensures { λ r. ⌜ r ≡ isEnumReferencingSameContainerStruct (bundleOf (now (s .entry))) name container ⌝ }
 {
-    let mut i = bundle::definition_of(s, places, count, container);
+    let mut i = lookup::definition_of(s, places, count, container);
     while i < count {
         let place = place_of(s, places, count, i);
         if contains(s, place, name, container) {
@@ -253,7 +253,7 @@ pub fn find_definition(s: &[u8], places: &[u16], count: usize, name: u16) -> Def
     requires { ⌜ Table (now s) count (now places) ⌝ }
     ensures { λ r. ⌜ Defines (now (s .entry)) count name r ⌝ }
 {
-    let i = bundle::definition_of(s, places, count, name);
+    let i = lookup::definition_of(s, places, count, name);
     if count <= i {
         return Definition::Nowhere;
     }

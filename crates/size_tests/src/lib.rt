@@ -273,7 +273,7 @@ fn reference_test(
     ensures { λ r. ⌜ TypeTested (now (s .entry)) jagged (ok (typeRef (little (now (s .entry)) at 2)) (at + 2)) (now (kept .exit)) r ⌝ }
 {
     let name = bundle::u16_at(s, at);
-    let i = bundle::definition_of(s, places, count, name);
+    let i = lookup::definition_of(s, places, count, name);
     if count <= i {
         return Tested::Fails(at + 2);
     }

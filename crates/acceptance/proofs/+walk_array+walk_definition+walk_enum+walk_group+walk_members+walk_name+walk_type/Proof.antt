@@ -28,7 +28,7 @@ use Rattle.acceptance.proofs.walk_type.Kinds as walk-type-kinds
 use Rattle.acceptance.proofs.+walk_array+walk_definition+walk_enum+walk_group+walk_members+walk_name+walk_type.Lts-walk_type as walk-type-lts
 use Rattle.bundle.proofs.array_head_at.Reads as array-head-at-reads
 use Rattle.bundle.proofs.count_at.Reads as count-at-reads
-use Rattle.bundle.proofs.definition_of.Reads as definition-of-reads
+use Rattle.lookup.proofs.definition_of.Reads as definition-of-reads
 use Rattle.bundle.proofs.expr_at.Reads as expr-at-reads
 use Rattle.bundle.proofs.form_of.Reads as form-of-reads
 use Rattle.bundle.proofs.member_head_at.Reads as member-head-at-reads

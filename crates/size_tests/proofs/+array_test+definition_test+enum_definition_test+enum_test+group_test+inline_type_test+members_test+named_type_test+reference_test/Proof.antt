@@ -34,7 +34,7 @@ use Rattle.size_tests.proofs.reference_test.Kinds as reference-test-kin
 use Rattle.size_tests.proofs.+array_test+definition_test+enum_definition_test+enum_test+group_test+inline_type_test+members_test+named_type_test+reference_test.Lts-reference_test as reference-test-lts
 use Rattle.bundle.proofs.array_head_at.Reads as array-head-at-reads
 use Rattle.bundle.proofs.count_at.Reads as count-at-reads
-use Rattle.bundle.proofs.definition_of.Reads as definition-of-reads
+use Rattle.lookup.proofs.definition_of.Reads as definition-of-reads
 use Rattle.bundle.proofs.expr_at.Reads as expr-at-reads
 use Rattle.bundle.proofs.form_of.Reads as form-of-reads
 use Rattle.bundle.proofs.member_head_at.Reads as member-head-at-reads
