@@ -27,10 +27,10 @@
  * nothing from one call to the next. Calls may run at the same time. Several may
  * read one bundle; each needs a buffer and a `written` of its own, and none of them
  * may be written by others during the call. A call works on the stack of its
- * thread: the most that was measured is under 1 MB, with bundles made to go deep,
- * so give a thread 2 MiB.
+ * thread and takes less than LAYOUT_STACK_BYTES of it: that is measured and tested
+ * with bundles made to go deep, and not proved.
  *
- * The library is for Linux on x86-64, and of the C library it needs memset alone.
+ * The library is for Linux on x86-64, and of the C library it needs memset and memcpy.
  */
 #ifndef LAYOUT_H
 #define LAYOUT_H
@@ -47,6 +47,9 @@ extern "C" {
 #define LAYOUT_DEFINITION_LIMIT 256
 #define LAYOUT_EDGE_LIMIT 1024
 #define LAYOUT_DEPTH_LIMIT 24
+
+/* The stack that a call may take, from where it is made. */
+#define LAYOUT_STACK_BYTES 262144
 
 /* The answers. 1 comes before all others. 2 to 6 are found while the bytes are
  * read front to back, and the first fault counts. Then come 7, 8 and 9. */

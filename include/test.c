@@ -176,8 +176,8 @@ static void *call_often(void *given) {
   return NULL;
 }
 
-/* Two threads share a bundle and two more another one. Their stacks have the 2 MiB
- * that layout.h says. */
+/* Two threads share a bundle and two more another one. Their stacks have what
+ * layout.h says, and as much again for the thread and call_often. */
 static void check_threads(void) {
   struct work work[4] = {{jagged, 24, 20000, 0},
                          {jagged, 24, 20000, 0},
@@ -186,7 +186,7 @@ static void check_threads(void) {
   pthread_t threads[4];
   pthread_attr_t attributes;
   pthread_attr_init(&attributes);
-  check(pthread_attr_setstacksize(&attributes, 2u << 20) == 0, "a stack of 2 MiB");
+  check(pthread_attr_setstacksize(&attributes, 2u * LAYOUT_STACK_BYTES) == 0, "a stack");
   for (int i = 0; i < 4; i++) {
     const int made = pthread_create(&threads[i], &attributes, call_often, &work[i]);
     check(made == 0, "a thread");

@@ -3,7 +3,8 @@
 # Usage: bindings/rust/test.sh [LIBRARY]
 # LIBRARY is the static library's path, relative to the root of the repository or
 # absolute. Default: the stand-in, tools/bench/target/liblayout_c.a
-# LINK_FLAGS may hold flags for the linker, such as -no-pie.
+# LINK_FLAGS may hold flags for the linker, such as -no-pie, and STACK_BYTES the
+# stack that every call must do with.
 set -eu
 here=$(cd "$(dirname "$0")" && pwd)
 root=$(cd "$here/../.." && pwd)
@@ -36,3 +37,15 @@ fi
 cc -std=c99 -Wall -Wextra -pedantic -pthread -Iinclude -o "$target/c_test" include/test.c "$library" \
   ${LINK_FLAGS:-}
 "$target/c_test"
+
+# The library needs of the C library what layout.h says.
+needed=$(nm -u "$library" | sed -n 's/^ *U //p' | sort -u | tr '\n' ' ')
+if [ "$needed" != 'memcpy memset ' ]; then
+  echo "the library needs: $needed" >&2
+  exit 1
+fi
+
+# Each call with the stack that it may need and no more.
+cc -std=c99 -Wall -Wextra -pthread ${STACK_BYTES:+-DSTACK_BYTES="$STACK_BYTES"} -o "$target/stack_test" \
+  include/stack_test.c "$library" ${LINK_FLAGS:-}
+"$target/stack_test"

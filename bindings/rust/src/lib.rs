@@ -16,6 +16,8 @@ pub use refusal::Refusal;
 pub const BYTE_LIMIT: usize = 32_768;
 /// No chain is longer: 1,024 edges join 1,025 names.
 pub const CHAIN_LIMIT: usize = 1_025;
+/// The stack that a call may take, from where it is made; as in `include/layout.h`, measured and tested, and not proved.
+pub const STACK_BYTES: usize = 262_144;
 /// No report is longer: a violation belongs to a reference, a field or an array of
 /// 3 bytes or more, so there are fewer than 11,000, and each has 16 bytes and 3 for
 /// each name of its chain.

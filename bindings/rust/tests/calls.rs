@@ -1,6 +1,8 @@
 //! Each call on bundles of a few bytes: answers, refusals, buffers kept.
 
-use layout::{accept, chain, chain_vec, renumber, renumber_vec, report, report_vec, Refusal};
+use layout::{
+    accept, chain, chain_vec, renumber, renumber_vec, report, report_vec, Refusal, STACK_BYTES,
+};
 
 /// A jagged array of three U8 and its report.
 const JAGGED: [u8; 24] = [
@@ -155,4 +157,34 @@ fn refusals_have_numbers_words_and_meanings() {
         Refusal::Circle.to_string(),
         "circle (8): a definition leads, by its TypeRefs, back to itself"
     );
+}
+
+/// 256 definitions, each but the last a struct whose one field leads to the next.
+fn levels() -> Vec<u8> {
+    let mut bytes = vec![0x60, 0, 1, 0, 0, 0, 0];
+    for name in 1..=256u16 {
+        bytes.push(0x61);
+        bytes.extend(name.to_le_bytes());
+        if name == 256 {
+            bytes.push(0x30);
+        } else {
+            bytes.extend([0x41, 0, 0, 0, 0, 0, 0, 0, 0, 0, 1, 0, 0x50, 1, 0, 0x40]);
+            bytes.extend((name + 1).to_le_bytes());
+        }
+    }
+    bytes
+}
+
+#[test]
+fn a_thread_with_the_stated_stack_is_enough() {
+    // The thread's own start and this closure take a little; include/stack_test.c leaves a call exactly the stated stack.
+    let thread = std::thread::Builder::new().stack_size(STACK_BYTES + 65_536);
+    let calls = || {
+        let bundle = levels();
+        assert_eq!(accept(&bundle), Ok(()));
+        assert_eq!(report_vec(&bundle), Ok(vec![0x70, 0, 0]));
+        assert_eq!(renumber_vec(&bundle).map(|bytes| bytes.len()), Ok(bundle.len()));
+        assert_eq!(chain_vec(&bundle, 1, 2), Ok(vec![]));
+    };
+    thread.spawn(calls).unwrap().join().unwrap();
 }

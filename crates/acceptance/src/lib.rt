@@ -1,28 +1,23 @@
 // Opens a bundle: reads all of it, notes the positions of its definitions, looks for circles, and says whether it is accepted.
 use bundle::Answer;
-use bundle::Count;
 use bundle::Counts;
 use bundle::Form;
 use bundle::Layout;
 use bundle::Opening;
 use bundle::Step;
-use bundle::TypeForm;
 ghost use mathlib.Core.Path.{_≡_};
 ghost use Prim.Native.Nat.{_+_, _≤_, _<_};
 ghost use lib.ListN.{length};
 ghost use mathlib.Core.List.{_∷_, []};
 ghost use Rattle.meaning.specs.Kinds.{formOf};
-ghost use Rattle.meaning.specs.ReadExpr.{readExpr};
-ghost use Rattle.meaning.specs.ReadType.{readTy, readMembers, readGroup, readEnum, readArray};
 ghost use Rattle.meaning.specs.ReadBundle.{readEdge, readHeader, readEdges};
-ghost use Rattle.meaning.specs.Reader.{many, little, ok};
-ghost use Rattle.meaning.specs.Tree.{typeRef};
+ghost use Rattle.meaning.specs.Reader.{many};
 ghost use Rattle.meaning.specs.Circle.{circles};
 ghost use Rattle.meaning.specs.Calls.{acceptance, answerOf};
 ghost use Rattle.bundle.specs.View.{formMeant, stepOf, countsOf};
 ghost use Rattle.bundle.specs.declared.Counts.the-variants.{Each};
-ghost use Rattle.bundle.specs.Definitions.{bundleOf, DefinitionsAt, Places, Table};
-ghost use Rattle.bundle.specs.Circles.{Marks, Decided, TypeToWalk, TypeWalked, MembersToWalk, MembersWalked, GroupToWalk, GroupWalked};
+ghost use Rattle.bundle.specs.Definitions.{bundleOf, placesEnd, DefinitionsAt, Places, Table};
+ghost use Rattle.acceptance.specs.Circles.{Marks, Decided};
 ghost use Rattle.bundle.specs.Opened.{IsRead, IsOpened, answerMeant};
 
 // The end of the edge at `at`, where `form` is an edge's.
@@ -102,26 +97,31 @@ fn edges_end(s: &[u8], at: usize, count: usize) -> Step
     }
 }
 
-// Notes behind the 257 positions, for each name for which there is a place, the number of its first definition: the last one first.
+// Notes the names of the definitions behind their positions: each once in the table of names, and for each its first definition.
 fn note_names(s: &[u8], count: usize, places: &mut [u16])
-    requires { ⌜ (count ≡ length (bundleOf (now s) .definitions)) × Places (now s) (bundleOf (now s) .definitions) (now places) × (256 < length (now places)) ⌝ }
+    requires { ⌜ (count ≡ length (bundleOf (now s) .definitions)) × Places (now s) (bundleOf (now s) .definitions) (now places) × (placesEnd ≤ length (now places)) ⌝ }
     ensures { λ _. ⌜ Table (now (s .entry)) count (now (places .exit)) ⌝ }
 {
-    let mut i = count;
-    while 0 < i {
-        i -= 1;
+    let start = bundle::TABLE_AT;
+    table::empty(&mut places[start..], 0, bundle::BUCKETS);
+    let mut names = 0;
+    let mut i = 0;
+    while i < count {
         let at = places[i] as usize;
         let name = bundle::u16_at(s, at - 2);
-        let place = bundle::PLACES + (name as usize);
-        if place < places.len() {
-            places[place] = i as u16;
+        let r = table::enter(&mut places[start..], 0, bundle::BUCKETS, names, name);
+        places[bundle::FIRSTS_AT + names] = i as u16;
+        i += 1;
+        if r == names {
+            names += 1;
         }
     }
+    places[bundle::NAMES_AT] = names as u16;
 }
 
 // The layout of the bundle that the bytes are, whose header has these counts and ends at `at`, or the number of the first fault.
 fn rest_at(s: &[u8], at: usize, definitions: usize, edges: usize, places: &mut [u16]) -> Opening
-    requires { ⌜ (length (now s) ≤ 32768) × (256 < length (now places)) × (Each definitions edges at ≡ countsOf (readHeader (now s) 0)) ⌝ }
+    requires { ⌜ (length (now s) ≤ 32768) × (placesEnd ≤ length (now places)) × (Each definitions edges at ≡ countsOf (readHeader (now s) 0)) ⌝ }
     ensures { λ r. ⌜ IsRead (now (s .entry)) (now (places .exit)) r ⌝ }
 {
     let step = definitions_at(s, at, definitions, places);
@@ -147,7 +147,7 @@ fn rest_at(s: &[u8], at: usize, definitions: usize, edges: usize, places: &mut [
 
 // The layout of the bundle that the bytes are, or the number of their first fault; circles are not looked for.
 fn bundle_at(s: &[u8], places: &mut [u16]) -> Opening
-    requires { ⌜ 256 < length (now places) ⌝ }
+    requires { ⌜ placesEnd ≤ length (now places) ⌝ }
     ensures { λ r. ⌜ IsRead (now (s .entry)) (now (places .exit)) r ⌝ }
 {
     if bundle::BYTE_LIMIT < s.len() {
@@ -180,212 +180,21 @@ fn walk_definition(
         return false;
     }
     marks[i] = 1;
-    let at = places[i] as usize;
-    let step = walk_type(s, places, count, marks, at, bundle::DEPTH_LIMIT);
-    match step {
-        Step::Next(_) => {
-            marks[i] = 2;
-            true
-        }
-        Step::Refused(_) => false,
-    }
-}
-
-// The same for the definition of the name at `at`, if there is one: the end of the name, or 8.
-fn walk_name(
-    s: &[u8],
-    places: &[u16],
-    count: usize,
-    marks: &mut [u8; bundle::DEFINITIONS],
-    at: usize,
-) -> Step
-    requires { ⌜ (at + 2 ≤ length (now s)) × Table (now s) count (now places) × TypeToWalk (now s) (ok (typeRef (little (now s) at 2)) (at + 2)) (now marks) ⌝ }
-    ensures { λ r. ⌜ TypeWalked (now (s .entry)) (ok (typeRef (little (now (s .entry)) at 2)) (at + 2)) (now (marks .entry)) (now (marks .exit)) r ⌝ }
-{
-    let name = bundle::u16_at(s, at);
-    let i = lookup::definition_of(s, places, count, name);
-    if count <= i {
-        return Step::Next(at + 2);
-    }
-    if walk_definition(s, places, count, marks, i) {
-        Step::Next(at + 2)
-    } else {
-        Step::Refused(8)
-    }
-}
-
-// The same for all names inside the type that was read at `at`: the end of the type, or 8.
-fn walk_type(
-    s: &[u8],
-    places: &[u16],
-    count: usize,
-    marks: &mut [u8; bundle::DEFINITIONS],
-    at: usize,
-    depth: usize,
-) -> Step
-    requires { ⌜ Table (now s) count (now places) × TypeToWalk (now s) (readTy depth (now s) at) (now marks) ⌝ }
-    ensures { λ r. ⌜ TypeWalked (now (s .entry)) (readTy depth (now (s .entry)) at) (now (marks .entry)) (now (marks .exit)) r ⌝ }
-{
-    let kind = s[at];
-    let form = bundle::form_of(kind);
-    let Form::OfType(t) = form else {
-        return Step::Refused(8);
-    };
-    let body = at + 1;
-    match t {
-        TypeForm::Primitive => Step::Next(body),
-        TypeForm::TypeRef => bundle::rebuilt(walk_name(s, places, count, marks, body)),
-        TypeForm::Struct => bundle::rebuilt(walk_group(
-            s,
-            places,
-            count,
-            marks,
-            body,
-            depth - 1,
-            0x50,
-        )),
-        TypeForm::Union => bundle::rebuilt(walk_group(
-            s,
-            places,
-            count,
-            marks,
-            body,
-            depth - 1,
-            0x51,
-        )),
-        TypeForm::Enum => bundle::rebuilt(walk_enum(s, places, count, marks, body, depth - 1)),
-        TypeForm::Array => bundle::rebuilt(walk_array(s, places, count, marks, body, depth - 1)),
-        TypeForm::SizeUnion => bundle::rebuilt(walk_group(
-            s,
-            places,
-            count,
-            marks,
-            body,
-            depth - 1,
-            0x53,
-        )),
-    }
-}
-
-// The same for the struct or union whose body is at `at` and whose members are of kind `kind`.
-fn walk_group(
-    s: &[u8],
-    places: &[u16],
-    count: usize,
-    marks: &mut [u8; bundle::DEFINITIONS],
-    at: usize,
-    depth: usize,
-    kind: u8,
-) -> Step
-    requires { ⌜ (at ≤ length (now s)) × Table (now s) count (now places) × GroupToWalk (now s) (readGroup (readTy depth) kind (now s) at) (now marks) ⌝ }
-    ensures { λ r. ⌜ GroupWalked (now (s .entry)) (readGroup (readTy depth) kind (now (s .entry)) at) (now (marks .entry)) (now (marks .exit)) r ⌝ }
-{
-    let head = bundle::count_at(s, at);
-    match head {
-        Count::Of(n, next) => bundle::rebuilt(walk_members(
-            s,
-            places,
-            count,
-            marks,
-            next,
-            depth,
-            kind,
-            n,
-        )),
-        Count::Wrong(_) => Step::Refused(8),
-    }
-}
-
-// The same for the enum whose body is at `at`.
-fn walk_enum(
-    s: &[u8],
-    places: &[u16],
-    count: usize,
-    marks: &mut [u8; bundle::DEFINITIONS],
-    at: usize,
-    depth: usize,
-) -> Step
-    requires { ⌜ (at ≤ length (now s)) × Table (now s) count (now places) × TypeToWalk (now s) (readEnum (readExpr depth) (readTy depth) (now s) at) (now marks) ⌝ }
-    ensures { λ r. ⌜ TypeWalked (now (s .entry)) (readEnum (readExpr depth) (readTy depth) (now (s .entry)) at) (now (marks .entry)) (now (marks .exit)) r ⌝ }
-{
-    let head = bundle::count_at(s, at);
-    match head {
-        Count::Of(n, next) => {
-            let tag = bundle::expr_at(s, next, depth);
-            match tag {
-                Step::Next(after) => {
-                    let step = walk_members(s, places, count, marks, after, depth, 0x52, n);
-                    bundle::rebuilt(step)
+    let end = places[i + 1] as usize - 3;
+    let mut at = scan::next_stop(s, places[i] as usize, end, false, false);
+    while at < end {
+        let j = lookup::definition_of(s, places, count, bundle::u16_at(s, at + 1));
+        at = scan::next_stop(s, at + 3, end, false, false);
+        if j < count {
+            if marks[j] < 2 {
+                if !walk_definition(s, places, count, marks, j) {
+                    return false;
                 }
-                Step::Refused(_) => Step::Refused(8),
             }
         }
-        Count::Wrong(_) => Step::Refused(8),
     }
-}
-
-// The same for the array whose body is at `at`.
-fn walk_array(
-    s: &[u8],
-    places: &[u16],
-    count: usize,
-    marks: &mut [u8; bundle::DEFINITIONS],
-    at: usize,
-    depth: usize,
-) -> Step
-    requires { ⌜ (at ≤ length (now s)) × Table (now s) count (now places) × TypeToWalk (now s) (readArray (readExpr depth) (readTy depth) (now s) at) (now marks) ⌝ }
-    ensures { λ r. ⌜ TypeWalked (now (s .entry)) (readArray (readExpr depth) (readTy depth) (now (s .entry)) at) (now (marks .entry)) (now (marks .exit)) r ⌝ }
-{
-    let head = bundle::array_head_at(s, at);
-    match head {
-        Step::Next(next) => {
-            let size = bundle::expr_at(s, next, depth);
-            match size {
-                Step::Next(after) => bundle::rebuilt(walk_type(
-                    s,
-                    places,
-                    count,
-                    marks,
-                    after,
-                    depth,
-                )),
-                Step::Refused(_) => Step::Refused(8),
-            }
-        }
-        Step::Refused(_) => Step::Refused(8),
-    }
-}
-
-// The same for the n members of kind `kind` at `at`.
-fn walk_members(
-    s: &[u8],
-    places: &[u16],
-    count: usize,
-    marks: &mut [u8; bundle::DEFINITIONS],
-    at: usize,
-    depth: usize,
-    kind: u8,
-    n: usize,
-) -> Step
-    requires { ⌜ Table (now s) count (now places) × MembersToWalk (now s) (readMembers (readTy depth) kind n (now s) at) (now marks) ⌝ }
-    ensures { λ r. ⌜ MembersWalked (now (s .entry)) (readMembers (readTy depth) kind n (now (s .entry)) at) (now (marks .entry)) (now (marks .exit)) r ⌝ }
-{
-    let form = bundle::form_of(kind);
-    let mut next = at;
-    let mut left = n;
-    while 0 < left {
-        let head = bundle::member_head_at(s, next, kind, form);
-        let Step::Next(body) = head else {
-            return Step::Refused(8);
-        };
-        let step = walk_type(s, places, count, marks, body, depth);
-        let Step::Next(after) = step else {
-            return Step::Refused(8);
-        };
-        next = after;
-        left -= 1;
-    }
-    Step::Next(next)
+    marks[i] = 2;
+    true
 }
 
 // Whether some definition leads back to itself.
@@ -408,7 +217,7 @@ fn circle(s: &[u8], places: &[u16], count: usize) -> bool
 // The layout of the bundle that the bytes are, and in `places` the position of each definition's type and the first definition of
 // each name; or the number for which the bytes are refused. What `places` holds before is free.
 pub fn open(bundle: &[u8], places: &mut [u16]) -> Opening
-    requires { ⌜ 256 < length (now places) ⌝ }
+    requires { ⌜ placesEnd ≤ length (now places) ⌝ }
     ensures { λ r. ⌜ IsOpened (now (bundle .entry)) (now (places .exit)) r ⌝ }
 {
     let opening = bundle_at(bundle, places);
@@ -424,27 +233,14 @@ pub fn open(bundle: &[u8], places: &mut [u16]) -> Opening
     }
 }
 
-// Whether the bytes are accepted, with a lent list of places.
-fn accept_with(bundle: &[u8], places: &mut [u16]) -> Answer
-    requires { ⌜ 256 < length (now places) ⌝ }
+// Whether the bytes are accepted: a result of no length, or the number for which they are refused.
+pub fn accept(bundle: &[u8]) -> Answer
     ensures { λ r. ⌜ answerMeant r ≡ answerOf (acceptance (now (bundle .entry))) 0 ⌝ }
 {
-    let opening = open(bundle, places);
+    let mut places = [0u16; bundle::PLACES];
+    let opening = open(bundle, &mut places);
     match opening {
         Opening::Opened(_) => Answer::Accepted(0),
         Opening::Refused(k) => Answer::Refused(k),
     }
-}
-
-// Whether the bytes are accepted: a result of no length, or the number for which they are refused. A short bundle is not worth the
-// clearing of a place for each name.
-pub fn accept(bundle: &[u8]) -> Answer
-    ensures { λ r. ⌜ answerMeant r ≡ answerOf (acceptance (now (bundle .entry))) 0 ⌝ }
-{
-    if bundle.len() <= bundle::SHORT_BYTES {
-        let mut places = [0u16; bundle::PLACES];
-        return accept_with(bundle, &mut places);
-    }
-    let mut places = [0u16; bundle::PLACES_BY_NAME];
-    accept_with(bundle, &mut places)
 }

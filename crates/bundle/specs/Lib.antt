@@ -1,4 +1,3 @@
-pub mod Circles
 pub mod Definitions
 pub mod Expressions
 pub mod Opened

@@ -1,14 +1,13 @@
 // Reads a bundle of layout definitions: accepts exactly the byte strings that the format allows.
 ghost use mathlib.Core.Path.{_≡_};
-ghost use mathlib.Core.Logic.{_⊎_};
-ghost use Prim.Native.Nat.{_+_, _≤_, _<_};
+ghost use Prim.Native.Nat.{_+_, _*_, _≤_};
 ghost use lib.ListN.{length};
 ghost use Rattle.meaning.specs.Kinds.{formOf};
 ghost use Rattle.meaning.specs.ReadExpr.{body, readExpr};
 ghost use Rattle.meaning.specs.ReadType.{head, arrayHead, memberHead, readTy, readMember, readMembers, readGroup, readEnum, readArray};
 ghost use Rattle.meaning.specs.ReadBundle.{opening, readDefinition, readHeader};
 ghost use Rattle.meaning.specs.Reader.{little};
-ghost use Rattle.bundle.specs.View.{formMeant, operandsOf, stepOf, countOf, countsOf};
+ghost use Rattle.bundle.specs.View.{recordBefore, recordNames, recordBehind, formMeant, operandsOf, stepOf, countOf, countsOf};
 
 // What an expression's kind byte fixes: its body and what follows. A literal has its body length, a field reference its
 // count of names.
@@ -40,13 +39,20 @@ pub enum TypeForm {
     SizeUnion,
 }
 
-// What a kind byte fixes: an expression or type of a form; a member, with the length of the value behind its name; a header,
-// definition or edge, with the bytes before its names, the count of names and the bytes behind them.
+// What the kind byte of a record outside all types fixes.
+pub enum RecordForm {
+    Header,
+    Definition,
+    Edge,
+}
+
+// What a kind byte fixes: an expression or type of a form; a member, with the length of the value behind its name; a record outside all
+// types.
 pub enum Form {
     OfExpr(ExprForm),
     OfType(TypeForm),
     OfMember(u8),
-    OfRecord(u8, u8, u8),
+    OfRecord(RecordForm),
     Unknown,
 }
 
@@ -100,54 +106,47 @@ pub const DEPTH_LIMIT: usize = 24;
 // The levels inside a definition's type.
 pub const DEPTH_INSIDE: usize = DEPTH_LIMIT - 1;
 
-// Lengths of lists: a place for each definition, each edge, each end of an edge, each name of the longest chain, each name.
+// Lengths of lists: a place for each definition, each edge, each name of the longest chain.
 pub const DEFINITIONS: usize = DEFINITION_LIMIT as usize;
 
 pub const EDGES: usize = EDGE_LIMIT as usize;
 
-pub const ENDS: usize = 2 * EDGES;
-
 pub const CHAIN_LIMIT: usize = EDGES + 1;
 
-pub const NAMES: usize = 65536;
+// What `places` has: the positions of the definitions and one more; how many names they have; the first definition of each of these
+// names; and the names, in a table of so many buckets, so that at most 64 names share one. `PLACES` is how many that makes.
+pub const NAMES_AT: usize = DEFINITIONS + 1;
 
-// The length of `places`: for the definitions and one more, and behind them for each name.
-pub const PLACES: usize = DEFINITIONS + 1;
+pub const FIRSTS_AT: usize = NAMES_AT + 1;
 
-pub const PLACES_BY_NAME: usize = PLACES + NAMES;
+pub const TABLE_AT: usize = FIRSTS_AT + DEFINITIONS;
 
-// A bundle of so many bytes is short: lists with a place for each name would take longer to clear than to do without.
+pub const BUCKETS: usize = 1024;
+
+pub const PLACES: usize = TABLE_AT + BUCKETS + 2 * DEFINITIONS;
+
+// A bundle of at most so many bytes is short: places for a long one would take longer to clear than all else.
 pub const SHORT_BYTES: usize = 1024;
 
 const WIDTHS: [u8; 8] = [8, 4, 2, 1, 8, 4, 2, 1];
 
-// The form of a kind that is no type's.
-fn form_of_other(kind: u8) -> Form
-    requires { ⌜ ((kind < 0x30) ⊎ (0x3B < kind)) × ((kind < 0x40) ⊎ (0x45 < kind)) ⌝ }
+// The form of a kind. The compiler takes this function into its callers, which then branch once on the kind, as long as no table of
+// jumps goes over much more than the types: so Sizeof, Alignof and the records outside types are ranges.
+pub fn form_of(kind: u8) -> Form
     ensures { λ r. ⌜ formMeant r ≡ formOf kind ⌝ }
 {
     match kind {
         0x01..=0x08 => Form::OfExpr(ExprForm::Literal(WIDTHS[(kind - 1) as usize])),
         0x09..=0x0C => Form::OfExpr(ExprForm::FieldRef(kind - 8)),
-        0x0D => Form::OfExpr(ExprForm::Sizeof),
-        0x0E => Form::OfExpr(ExprForm::Alignof),
+        0x0D..=0x0E => {
+            if kind == 0x0D {
+                Form::OfExpr(ExprForm::Sizeof)
+            } else {
+                Form::OfExpr(ExprForm::Alignof)
+            }
+        }
         0x10..=0x23 => Form::OfExpr(ExprForm::Binary),
         0x24..=0x27 => Form::OfExpr(ExprForm::Unary),
-        0x50 | 0x51 => Form::OfMember(0),
-        0x52 | 0x53 => Form::OfMember(8),
-        0x60 => Form::OfRecord(4, 1, 0),
-        0x61 => Form::OfRecord(0, 1, 0),
-        0x62 => Form::OfRecord(0, 2, 1),
-        _ => Form::Unknown,
-    }
-}
-
-// The form of a kind. Types stand apart: a function of these arms is compiled into its callers, which then decide by the kind itself;
-// one with an arm more is not.
-pub fn form_of(kind: u8) -> Form
-    ensures { λ r. ⌜ formMeant r ≡ formOf kind ⌝ }
-{
-    match kind {
         0x30..=0x3B => Form::OfType(TypeForm::Primitive),
         0x40 => Form::OfType(TypeForm::TypeRef),
         0x41 => Form::OfType(TypeForm::Struct),
@@ -155,7 +154,18 @@ pub fn form_of(kind: u8) -> Form
         0x43 => Form::OfType(TypeForm::Enum),
         0x44 => Form::OfType(TypeForm::Array),
         0x45 => Form::OfType(TypeForm::SizeUnion),
-        _ => form_of_other(kind),
+        0x50..=0x51 => Form::OfMember(0),
+        0x52..=0x53 => Form::OfMember(8),
+        0x60..=0x62 => {
+            if kind == 0x60 {
+                Form::OfRecord(RecordForm::Header)
+            } else if kind == 0x61 {
+                Form::OfRecord(RecordForm::Definition)
+            } else {
+                Form::OfRecord(RecordForm::Edge)
+            }
+        }
+        _ => Form::Unknown,
     }
 }
 
@@ -171,17 +181,20 @@ pub fn skip_bytes(s: &[u8], at: usize, n: usize) -> Step
     }
 }
 
-// The operands of an expression by its kind byte.
-fn operands_of(kind: u8) -> Operands
-    ensures { λ r. ⌜ r ≡ operandsOf (formOf kind) ⌝ }
+// The operands of an expression, by its form.
+fn operands_of(form: Form) -> Operands
+    ensures { λ r. ⌜ r ≡ operandsOf (formMeant form) ⌝ }
 {
-    match kind {
-        0x01..=0x08 => Operands::None(WIDTHS[(kind - 1) as usize] as usize),
-        0x09..=0x0C => Operands::None(2 * ((kind - 8) as usize)),
-        0x0D | 0x0E => Operands::None(2),
-        0x10..=0x23 => Operands::Two,
-        0x24..=0x27 => Operands::One,
-        _ => Operands::Unknown,
+    let Form::OfExpr(expr) = form else {
+        return Operands::Unknown;
+    };
+    match expr {
+        ExprForm::Literal(w) => Operands::None(w as usize),
+        ExprForm::FieldRef(n) => Operands::None(2 * (n as usize)),
+        ExprForm::Sizeof => Operands::None(2),
+        ExprForm::Alignof => Operands::None(2),
+        ExprForm::Binary => Operands::Two,
+        ExprForm::Unary => Operands::One,
     }
 }
 
@@ -201,7 +214,7 @@ pub fn expr_at(s: &[u8], at: usize, depth: usize) -> Step
         if s.len() <= next {
             return Step::Refused(2);
         }
-        let operands = operands_of(s[next]);
+        let operands = operands_of(form_of(s[next]));
         next += 1;
         level -= 1;
         match operands {
@@ -259,7 +272,7 @@ pub fn count_at(s: &[u8], at: usize) -> Count
 }
 
 // The end of an array's body.
-pub fn array_head_at(s: &[u8], at: usize) -> Step
+fn array_head_at(s: &[u8], at: usize) -> Step
     requires { ⌜ at ≤ length (now s) ⌝ }
     ensures { λ r. ⌜ r ≡ stepOf (arrayHead (now (s .entry)) at) ⌝ }
 {
@@ -294,7 +307,7 @@ pub fn member_head_at(s: &[u8], at: usize, kind: u8, form: Form) -> Step
 
 // The same step. Where a function returns the step of a call, the compiled code stores it in parts and loads it whole, and waits for
 // the stores; a step that is made anew stays in registers.
-pub fn rebuilt(step: Step) -> Step
+fn rebuilt(step: Step) -> Step
     ensures { λ r. ⌜ r ≡ step ⌝ }
 {
     match step {
@@ -410,6 +423,17 @@ fn members_at(s: &[u8], at: usize, depth: usize, kind: u8, count: usize) -> Step
     Step::Next(next)
 }
 
+// The bytes of the body of a header, definition or edge.
+fn record_length(form: RecordForm) -> usize
+    ensures { λ r. ⌜ r ≡ recordBefore form + 2 * recordNames form + recordBehind form ⌝ }
+{
+    match form {
+        RecordForm::Header => 6,
+        RecordForm::Definition => 2,
+        RecordForm::Edge => 5,
+    }
+}
+
 // The body of the header, definition or edge at `at`, whose kind must be `kind`, of this form, and whose body must be whole.
 pub fn opening_at(s: &[u8], at: usize, kind: u8, form: Form) -> Step
     requires { ⌜ formMeant form ≡ formOf kind ⌝ }
@@ -421,11 +445,11 @@ pub fn opening_at(s: &[u8], at: usize, kind: u8, form: Form) -> Step
     if s[at] != kind {
         return Step::Refused(3);
     }
-    let Form::OfRecord(before, names, behind) = form else {
+    let Form::OfRecord(record) = form else {
         return Step::Refused(3);
     };
     let body = at + 1;
-    if s.len() - body < (before as usize) + 2 * (names as usize) + (behind as usize) {
+    if s.len() - body < record_length(record) {
         return Step::Refused(2);
     }
     Step::Next(body)

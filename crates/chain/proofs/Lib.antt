@@ -1,16 +1,6 @@
-pub mod Put
-pub mod Rest
-pub mod Breadth
-pub mod Steps
-pub mod Entries
-pub mod Back
-pub mod Members
+pub mod Parts
 pub mod Links
-pub mod Filling
 pub mod Numbers
 pub mod Named
 pub mod Edges
 pub mod Called
-pub mod Answer
-pub mod Turn
-pub mod After

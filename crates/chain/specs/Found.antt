@@ -1,25 +1,24 @@
 -- What a search answers, and what it leaves in the list that it is lent.
-use Prim.Native.Nat.{ℕ}
+use Prim.Native.Nat.{ℕ, _+_, _≤_}
 use mathlib.Core.Path.{_≡_}
-use mathlib.Core.Bool.{cond}
-use mathlib.Core.List.{List, _++_}
+use mathlib.Core.List.{List}
 use mathlib.Core.Option.{Option, none, some}
-use lib.Dec.{leb}
-use lib.ListN.{length, drop}
+use lib.ListN.{length, take}
+use Rattle.meaning.specs.Limits.{edgeLimit}
 use Rattle.chain.specs.declared.Found.{Found}
 use Rattle.chain.specs.declared.Found.the-variants.{Missing, Chain}
 
--- the answer for a chain, or none
-abbrev pub foundOf : Option (List ℕ) → Found
-foundOf none = Missing
-foundOf (some names) = Chain (length names)
+-- the chain o stands in the first k places of a list
+pub record Stands (o : Option (List ℕ)) (list : List ℕ) (k : ℕ) : Type 0 where
+  pub is : o ≡ some (take k list)
+  pub short : k ≤ edgeLimit + 1
+  pub room : k ≤ length list
 
--- the list after it: the chain in its first places where it has so many, and else as it was
-abbrev pub listOf : Option (List ℕ) → List ℕ → List ℕ
-listOf none list = list
-listOf (some names) list = cond (leb (length names) (length list)) (names ++ drop (length names) list) list
+-- what the answer says: that there is no chain, or how many of its names stand in the list
+abbrev pub Told : Option (List ℕ) → List ℕ → Found → Type 0
+Told o list Missing = o ≡ none
+Told o list (Chain k) = Stands o list k
 
--- r is the answer, and list′ the list after it, for the chain o and the list
-pub record Answers (o : Option (List ℕ)) (list list′ : List ℕ) (r : Found) : Type 0 where
-  pub found : r ≡ foundOf o
-  pub left : list′ ≡ listOf o list
+-- r is the answer to a search for the chain o, and the list is left so
+pub record Answers (o : Option (List ℕ)) (list : List ℕ) (r : Found) : Type 0 where
+  pub told : Told o list r

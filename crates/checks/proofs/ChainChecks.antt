@@ -1,13 +1,11 @@
 -- What the search for a chain says of the checks, and the fields that a reference names.
 use Prim.Native.Nat.{ℕ, zero, suc, _+_, _-_, _*_, _≤_, _<_}
 use native.Mathlib.Omega.{arith}
-use mathlib.Core.Bool.{true, false, cond}
-use mathlib.Core.Option.{Option, none, some}
-use mathlib.Core.Path.{_≡_, refl, sym, ap, ap₂, subst, _∙_}
-use mathlib.Core.List.{List, [], _∷_, _++_}
-use lib.ListN.{length, getD, drop, take, set, length-append}
-use lib.Seq.{take-at}
-use borrow.Author.Tests.{le-leb}
+use mathlib.Core.Bool.{true, false}
+use mathlib.Core.Option.{Option, none}
+use mathlib.Core.Path.{_≡_, refl, sym, ap, subst, _∙_}
+use mathlib.Core.List.{List, [], _∷_}
+use lib.ListN.{length, drop, set}
 use Rattle.meaning.specs.Chain.{chainOf}
 use Rattle.meaning.specs.Lists.{holds}
 use Rattle.meaning.specs.Lookup.{Target, parseFieldReference, findType}
@@ -15,18 +13,17 @@ use Rattle.meaning.specs.Lookup as lookup
 use Rattle.fields.specs.Shapes.{DefinitionIs}
 use Rattle.meaning.specs.Reader.{little, namesFrom}
 use Rattle.meaning.specs.Sizes.{namedSizeDepends}
-use Rattle.meaning.specs.Violations.{graph, findLayoutDependencyChain, isEnumReferencingSameContainerStruct}
+use Rattle.meaning.specs.Violations.{findLayoutDependencyChain, isEnumReferencingSameContainerStruct}
 use Rattle.meaning.specs.Violations.{checkEnumForwardReferenceInSameStruct, checkEnumTagLayoutCycle, checkArraySizeLayoutCycle}
-use Rattle.meaning.proofs.Chains.{chain-length}
 use Rattle.bundle.specs.declared.Layout.{Layout}
-use Rattle.bundle.specs.Definitions.{typeAt, bundleOf, Table}
+use Rattle.bundle.specs.Definitions.{bundleOf}
 use Rattle.bundle.specs.Opened.{LayoutOf}
-use Rattle.bundle.proofs.LookupLaws.{placed-type}
 use Rattle.chain.specs.declared.Found.{Found}
-use Rattle.chain.specs.declared.Found.the-variants.{Missing, Chain}
 use Rattle.chain.specs.Edges.{graphAt}
-use Rattle.chain.specs.Found.{Answers, foundOf, listOf}
+use Rattle.chain.specs.Found.{Stands, Answers}
+use Rattle.chain.specs.Index.{named}
 use Rattle.chain.proofs.Edges.{chain-read}
+use Rattle.chain.proofs.Named.{prepared-chain}
 use Rattle.sizes.specs.declared.Target as code
 use Rattle.sizes.specs.Paths.{Fit, targetMeant}
 use Rattle.sizes.specs.Scan.{pathAt}
@@ -35,7 +32,7 @@ use Rattle.checks.specs.declared.Check.the-variants as check
 use Rattle.checks.specs.declared.Part.{Part}
 use Rattle.checks.specs.declared.Part.the-variants as part
 use Rattle.sizes.specs.Tests.{definitionSizeDepends}
-use Rattle.checks.specs.Checks.{targetAt, typePart, PartOf, Checked, GraphOf, ChainIs}
+use Rattle.checks.specs.Checks.{targetAt, typePart, PartOf, Checked, GraphOf, EdgesPrepared}
 
 -- three stores into the first places
 pub set-three : (l : List ℕ) (a b c : ℕ) → 3 ≤ length l → set (set (set l 0 a) 1 b) 2 c ≡ a ∷ b ∷ c ∷ drop 3 l
@@ -51,41 +48,13 @@ graph-of o = record { edges = o .edges; few = o .few; from = o .from; current = 
 pub fine : (s : List ℕ) (n : ℕ) (list : List ℕ) {o : ℕ → Option _} → ((i : ℕ) → o i ≡ none) → Checked s n list check.Fine o
 fine s n list h = record { means = λ i. sym (h i); fits = tt }
 
--- the search over the edges in the bytes is that over the bundle's
-module _ {s : List ℕ} {l : Layout} (g : GraphOf s l) (a c : ℕ) {list list′ : List ℕ} {r : Found} where
-  pub found-chain : Answers (chainOf (graphAt s (l .«edges_at») (l .edges)) a c) list list′ r → Answers (findLayoutDependencyChain (bundleOf s) a c) list list′ r
-  unfolding findLayoutDependencyChain
-  found-chain h =
-      subst (λ o. Answers o list list′ r)
-      (ap (λ k. chainOf (graphAt s (l .«edges_at») k) a c) (g .edges) ∙ sym (chain-read s (bundleOf s) (l .«edges_at») (g .from) a c)) h
-
--- there is no chain
-pub chain-none : {o : Option (List ℕ)} {list list′ : List ℕ} {r : Found} → Answers o list list′ r → r ≡ Missing → o ≡ none
-chain-none {o} h e = go o (sym e ∙ h .found)
-  where
-    go : (o : Option (List ℕ)) → Missing ≡ foundOf o → o ≡ none
-    go none q = refl
-    go (some names) q = let z : _≡_ {A = ℕ} 0 1 = cc in absurd (omega arith)
-
--- a chain that was found stands in the list
-list-chain : (o : Option (List ℕ)) (list list′ : List ℕ) (k : ℕ) → 1025 ≤ length list → ((names : List ℕ) → o ≡ some names → length names ≤ 1025)
-    → Chain k ≡ foundOf o → list′ ≡ listOf o list → ChainIs o list′ k
-list-chain none list list′ k h short e q = let z : _≡_ {A = ℕ} 0 1 = cc in absurd (omega arith)
-list-chain (some names) list list′ k h short e q =
-    let n : k ≡ length names = cc in
-    let b = short names refl in
-    let w : list′ ≡ names ++ drop (length names) list = q ∙ ap (λ t. cond t (names ++ drop (length names) list) list) (le-leb (length names) (length list) (omega arith)) in
-    record {
-      is = ap some (sym (ap₂ take n w ∙ take-at names (drop (length names) list) (length names) refl));
-      short = omega arith;
-      room = omega (arith, ap length w, length-append names (drop (length names) list));
-    }
-
-pub chain-is : {s : List ℕ} {l : Layout} → GraphOf s l → (a c : ℕ) {list list′ : List ℕ} {r : Found} {k : ℕ} → 1025 ≤ length list
-    → Answers (findLayoutDependencyChain (bundleOf s) a c) list list′ r → r ≡ Chain k → ChainIs (findLayoutDependencyChain (bundleOf s) a c) list′ k
+-- the search over the prepared edges is that over the bundle's
+pub found-chain : {s : List ℕ} {l : Layout} {edges : List ℕ} → GraphOf s l → EdgesPrepared s l edges → (a c : ℕ) {list : List ℕ} {r : Found}
+    → Answers (chainOf (named (l .edges) edges) a c) list r → Answers (findLayoutDependencyChain (bundleOf s) a c) list r
 unfolding findLayoutDependencyChain
-chain-is {s} g a c {list} {list′} h q e =
-    list-chain (chainOf (graph (bundleOf s)) a c) list list′ _ h (λ names p. omega (arith, chain-length (graph (bundleOf s)) a c names p, g .edges, g .few)) (sym e ∙ q .found) (q .left)
+found-chain {s} {l} g p a c {list} {r} h =
+    subst (λ o. Answers o list r)
+    (prepared-chain p a c ∙ ap (λ k. chainOf (graphAt s (l .«edges_at») k) a c) (g .edges) ∙ sym (chain-read s (bundleOf s) (l .«edges_at») (g .from) a c)) h
 
 -- the type's name in a reference
 pub type-part : {s : List ℕ} {l : Layout} → GraphOf s l → (p : ℕ) (t : code.Target) → targetMeant s t ≡ parseFieldReference (l .current) (pathAt s p) → t .name ≡ typePart s p
@@ -97,7 +66,7 @@ module _ (s : List ℕ) (p x a : ℕ) (e : x ≡ typePart s p) where
   unfolding checkArraySizeLayoutCycle
   array-none h i = rw (← e, h)
 
-  pub array-some : Fit s p → {list : List ℕ} {k : ℕ} → ChainIs (findLayoutDependencyChain (bundleOf s) x a) list k
+  pub array-some : Fit s p → {list : List ℕ} {k : ℕ} → Stands (findLayoutDependencyChain (bundleOf s) x a) list k
       → Checked s a list (check.ArrayCycle p k) (λ i. checkArraySizeLayoutCycle (bundleOf s) i a (pathAt s p))
   unfolding checkArraySizeLayoutCycle
   array-some f h = record { means = λ i. rw (← e, h .is); fits = record { fit = f; short = h .short; room = h .room } }
@@ -120,7 +89,7 @@ module _ (s : List ℕ) (p x n : ℕ) (e : x ≡ typePart s p) where
       unfolding checkEnumTagLayoutCycle
       enum-none q i = rw (← e, ← h, ← d, q)
 
-      pub enum-some : Fit s p → {list : List ℕ} {k : ℕ} → ChainIs (findLayoutDependencyChain (bundleOf s) x n) list k
+      pub enum-some : Fit s p → {list : List ℕ} {k : ℕ} → Stands (findLayoutDependencyChain (bundleOf s) x n) list k
           → Checked s n list (check.EnumCycle p k) (λ i. checkEnumTagLayoutCycle (bundleOf s) i n (pathAt s p))
       unfolding checkEnumTagLayoutCycle
       enum-some f q = record { means = λ i. rw (← e, ← h, ← d, q .is); fits = record { fit = f; short = q .short; room = q .room } }
@@ -168,10 +137,6 @@ part-other path e g = subst (PartOf path) e g
 pub size-is : {s : List ℕ} {n x i at : ℕ} → DefinitionIs s n x i at → definitionSizeDepends (bundleOf s) i ≡ holds (namedSizeDepends (bundleOf s)) (findType (bundleOf s) x)
 unfolding findType
 size-is {s} g = ap (definitionSizeDepends (bundleOf s)) (g .number)
-
--- that of a definition by its place
-pub size-at : {s : List ℕ} {n : ℕ} {places : List ℕ} → Table s n places → (i : ℕ) → i < n → definitionSizeDepends (bundleOf s) i ≡ namedSizeDepends (bundleOf s) (typeAt 24 s (getD places i 0))
-size-at {s} t i h = ap (holds (namedSizeDepends (bundleOf s))) (placed-type t i h)
 
 pub size-none : (s : List ℕ) (x : ℕ) → findType (bundleOf s) x ≡ none → false ≡ holds (namedSizeDepends (bundleOf s)) (findType (bundleOf s) x)
 size-none s x e = rw e

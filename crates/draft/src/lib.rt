@@ -3,7 +3,7 @@ use bundle::Answer;
 use bundle::Layout;
 use validate::Position;
 ghost use mathlib.Core.Bool.{true, false};
-ghost use Prim.Native.Nat.{_-_, _≤_};
+ghost use Prim.Native.Nat.{_+_, _-_, _*_, _≤_};
 ghost use lib.ListN.{length, take, drop};
 ghost use Rattle.meaning.specs.Calls.{Call, result};
 ghost use Rattle.meaning.specs.Report.{report};
@@ -11,7 +11,7 @@ ghost use Rattle.meaning.specs.Violations.{violations};
 ghost use Rattle.bundle.specs.Definitions.{bundleOf};
 ghost use Rattle.bundle.specs.Opened.{LayoutOf, answerMeant};
 ghost use Rattle.sizes.specs.Tests.{Acyclic, Kept};
-ghost use Rattle.chain.specs.Index.{Workspace};
+ghost use Rattle.field_index.specs.Noted.{Noted};
 ghost use Rattle.checks.specs.Checks.{EdgesPrepared};
 ghost use Rattle.violation.specs.Records.{Puts};
 
@@ -37,21 +37,12 @@ pub fn write_report(
     layout: Layout,
     kept: &mut [u8; bundle::DEFINITIONS],
     nested: &mut [u8; bundle::DEFINITIONS],
-    names: &[u16],
-    table: &[u16],
-    ends: &[u16],
-    first: &[u16],
-    links: &[u16],
-    m: usize,
-    queue: &mut [u16],
-    parents: &mut [u16],
-    marks: &mut [u16],
-    list: &mut [u16],
+    edges: &[u16],
+    work: &mut [u16],
     out: &mut [u8],
 ) -> Answer
-    requires { ⌜ EdgesPrepared (now s) layout (now names) (now table) (now ends) (now first) (now links) m × Workspace (layout .edges) (now queue) (now parents) ⌝ }
-    requires { ⌜ LayoutOf (now s) layout (now places) ⌝ }
-    requires { ⌜ (1025 ≤ length (now list)) × (length (violations (bundleOf (now s))) ≤ 65535) ⌝ }
+    requires { ⌜ EdgesPrepared (now s) layout (now edges) × (7 * layout .edges + 5 ≤ length (now work)) ⌝ }
+    requires { ⌜ LayoutOf (now s) layout (now places) × (length (violations (bundleOf (now s))) ≤ 65535) × Noted (now s) (now places) (layout .definitions) ⌝ }
     requires { ⌜ Acyclic (now s) × Kept (now s) false (now kept) × Kept (now s) true (now nested) ⌝ }
     ensures { λ r. ⌜ Call (result (report (bundleOf (now (s .entry))))) (now (out .entry)) (now (out .exit)) (answerMeant r) ⌝ }
 {
@@ -63,16 +54,8 @@ pub fn write_report(
         layout,
         kept,
         nested,
-        names,
-        table,
-        ends,
-        first,
-        links,
-        m,
-        queue,
-        parents,
-        marks,
-        list,
+        edges,
+        work,
         &mut draft,
         start,
     );
@@ -91,16 +74,8 @@ pub fn write_report(
         layout,
         kept,
         nested,
-        names,
-        table,
-        ends,
-        first,
-        links,
-        m,
-        queue,
-        parents,
-        marks,
-        list,
+        edges,
+        work,
         out,
         start,
     );

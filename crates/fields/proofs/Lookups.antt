@@ -3,23 +3,22 @@ use Prim.Native.Nat.{ℕ, suc, _+_, _<_}
 use native.Mathlib.Decide.{decLt}
 use mathlib.Core.Logic.{by-cases}
 use native.Mathlib.Omega.{arith}
-use mathlib.Core.Bool.{Bool, true, false, cond}
-use mathlib.Core.Option.{Option, none, some, Option·map}
-use mathlib.Core.Path.{_≡_, refl, sym, ap, ap₂, subst, _∙_}
+use mathlib.Core.Bool.{Bool, false}
+use mathlib.Core.Option.{Option, none, some}
+use mathlib.Core.Path.{_≡_, refl, sym, ap, subst, _∙_}
 use mathlib.Core.List.{List, [], _∷_}
 use types.Run.{OneOf}
 use denote.Enum.Declared.{tagOf}
 use lib.Dec.{ltb}
-use lib.ListN.{length, getD}
+use lib.ListN.{getD}
 use borrow.Author.Tests.{lt-ltb, le-ltb}
 use Rattle.meaning.specs.Tree.{Member}
-use Rattle.meaning.specs.Lists.{firstIndex, lastIndex, holds, precedes}
-use Rattle.meaning.specs.Lookup.{listOf, definitionOf, findType}
+use Rattle.meaning.specs.Lists.{holds, precedes}
+use Rattle.meaning.specs.Lookup.{definitionOf, findType}
 use Rattle.meaning.specs.Sizes.{isEnumWithConstantSizeVariants}
-use Rattle.meaning.specs.Violations.{structOf, standsBefore, standsAfter}
-use Rattle.bundle.specs.Definitions.{typeAt, membersAt, bundleOf, Table}
+use Rattle.meaning.specs.Violations.{structOf}
+use Rattle.bundle.specs.Definitions.{typeAt, bundleOf, Table}
 use Rattle.bundle.proofs.LookupLaws.{placed-at, found-type}
-use Rattle.sizes.proofs.Parts.{members-length}
 use Rattle.fields.specs.declared.Place.{Place}
 use Rattle.fields.specs.declared.Shape.{Shape}
 use Rattle.fields.specs.declared.Definition.{Definition}
@@ -27,7 +26,7 @@ use Rattle.fields.specs.declared.Definition.the-variants as definition
 use Rattle.fields.specs.declared.Fields.{Fields}
 use Rattle.fields.specs.declared.Fields.the-variants as fields
 use Rattle.fields.specs.Shapes.{StructAt, ShapeOf, PlacedAt, DefinitionIs, Defines, FieldsAre, FieldsOf}
-use Rattle.fields.specs.Sought.{sought, firstShown, lastShown}
+use Rattle.fields.specs.Sought.{lastShown}
 use Rattle.fields.proofs.Shape.{the-type}
 use Rattle.fields.proofs.ShapeLaws.{shape-other}
 use Rattle.fields.proofs.Walking.{placed-reads}
@@ -76,56 +75,16 @@ pub constant-none : (s : List ℕ) (x : ℕ) → findType (bundleOf s) x ≡ non
 constant-none s x e = rw e
 
 -- an index before another, as they are shown
-precedes-zero : (o p : Option ℕ) → lastShown 0 0 o ≡ 0 → false ≡ precedes o p
+pub precedes-zero : (o p : Option ℕ) → lastShown 0 0 o ≡ 0 → false ≡ precedes o p
 precedes-zero none p e = refl
 precedes-zero (some i) p e = absurd (omega arith)
 
-precedes-shown : (o p : Option ℕ) → (lastShown 0 0 o ≡ 0 → ⊥) → ltb (lastShown 0 0 o) (lastShown 0 0 p) ≡ precedes o p
+pub precedes-shown : (o p : Option ℕ) → (lastShown 0 0 o ≡ 0 → ⊥) → ltb (lastShown 0 0 o) (lastShown 0 0 p) ≡ precedes o p
 precedes-shown none p ne = absurd (ne refl)
 precedes-shown (some i) none ne = le-ltb (suc (i + 0)) 0 (omega arith)
 precedes-shown (some i) (some j) ne =
     by-cases (decLt i j) (λ (h : i < j). lt-ltb (suc (i + 0)) (suc (j + 0)) (omega arith) ∙ sym (lt-ltb i j h))
     (λ (h : ¬ (i < j)). le-ltb (suc (i + 0)) (suc (j + 0)) (omega arith) ∙ sym (le-ltb i j (omega arith)))
-
--- an index is below the length
-first-below : {A : Type 0} (p : A → Bool) (xs : List A) (i : ℕ) → firstIndex p xs ≡ some i → i < length xs
-first-below p [] i e = let z : _≡_ {A = ℕ} 0 1 = cc in absurd (omega arith)
-first-below p (x ∷ xs) i e = go (p x) (firstIndex p xs) (first-below p xs) e
-  where
-    go : (t : Bool) (o : Option ℕ) → ((j : ℕ) → o ≡ some j → j < length xs) → cond t (some 0) (Option·map suc o) ≡ some i → i < suc (length xs)
-    go true o q e = let z : 0 ≡ i = cc in omega arith
-    go false none q e = let z : _≡_ {A = ℕ} 0 1 = cc in absurd (omega arith)
-    go false (some j) q e = let z : suc j ≡ i = cc in omega (arith, q j refl)
-
-first-none : {A : Type 0} (p : A → Bool) (xs : List A) (j n r : ℕ) → length xs ≡ n → r ≡ firstShown 0 n (firstIndex p xs) → r ≡ n → false ≡ holds (ltb j) (firstIndex p xs)
-first-none p xs j n r e q h = go (firstIndex p xs) refl
-  where
-    go : (o : Option ℕ) → firstIndex p xs ≡ o → false ≡ holds (ltb j) o
-    go none k = refl
-    go (some i) k = let a = first-below p xs i k in let b : r ≡ i + 0 = q ∙ ap (firstShown 0 n) k in absurd (omega arith)
-
-first-some : (j n r : ℕ) (o : Option ℕ) → r ≡ firstShown 0 n o → (r ≡ n → ⊥) → ltb j r ≡ holds (ltb j) o
-first-some j n r none q ne = absurd (ne q)
-first-some j n r (some i) q ne = ap (ltb j) (q ∙ omega arith)
-
--- the order of the fields of a struct
-module _ {s : List ℕ} {x at n : ℕ} (g : FieldsAre s x at n) where
-  abbrev ms : List Member
-  ms = listOf (membersAt 23 0x50 n s at)
-
-  module _ (e f held named : ℕ) (p : held ≡ lastShown 0 0 (lastIndex (sought true e) ms)) (q : named ≡ lastShown 0 0 (lastIndex (sought false f) ms)) where
-    pub before-no : held ≡ 0 → false ≡ holds (standsBefore e (f ∷ [])) (structOf (bundleOf s) x)
-    before-no h = precedes-zero (lastIndex (sought true e) ms) (lastIndex (sought false f) ms) (sym p ∙ h) ∙ rw (g .is)
-
-    pub before-is : (held ≡ 0 → ⊥) → ltb held named ≡ holds (standsBefore e (f ∷ [])) (structOf (bundleOf s) x)
-    before-is h = ap₂ ltb p q ∙ precedes-shown (lastIndex (sought true e) ms) (lastIndex (sought false f) ms) (λ z. h (p ∙ z)) ∙ rw (g .is)
-
-  module _ (j f named : ℕ) (p : named ≡ firstShown 0 n (firstIndex (sought false f) ms)) where
-    pub after-no : named ≡ n → false ≡ holds (standsAfter j (f ∷ [])) (structOf (bundleOf s) x)
-    after-no h = first-none (sought false f) ms j n named (members-length 23 0x50 s n at (g .reads)) p h ∙ rw (g .is)
-
-    pub after-is : (named ≡ n → ⊥) → ltb j named ≡ holds (standsAfter j (f ∷ [])) (structOf (bundleOf s) x)
-    after-is h = first-some j n named (firstIndex (sought false f) ms) p h ∙ rw (g .is)
 
 -- the position of the first definition's type is its place
 pub definition-placed : {s : List ℕ} {n : ℕ} {places : List ℕ} → Table s n places → {x i at : ℕ} → DefinitionIs s n x i at → DefinitionIs s n x i (getD places i 0)

@@ -27,8 +27,8 @@ use Rattle.bundle.proofs.ExprLaws.{Opened}
 use Rattle.bundle.proofs.Trees.{ended-reads, refused-no, first-read}
 use Rattle.bundle.proofs.TypeLaws.{member-type}
 use Rattle.bundle.proofs.TypeTrees.{primitive-tree, typeRef-reads, typeRef-tree, union-tree, sizeUnion-tree, member-reads, member-value}
-use Rattle.sizes.proofs.Heads.{member-where}
-use Rattle.sizes.proofs.Parts.{struct-parts, enum-at, array-at}
+use Rattle.bundle.proofs.Heads.{member-where}
+use Rattle.bundle.proofs.Parts.{struct-parts, enum-at, array-at}
 use Rattle.fields.specs.declared.Shape.{Shape}
 use Rattle.fields.specs.declared.Shape.the-variants as shape
 use Rattle.fields.specs.Shapes.{StructAt, EnumAt, ArrayAt, isPlain, ShapeOf, refShown, FieldAt}
@@ -64,6 +64,7 @@ module _ {d at : ℕ} {s : List ℕ} {f : Form} (o : Opened d at s f) (r : Reads
         attributes = g .attributes;
         reads = subst (λ i. Reads (readMembers (readTy (d - 1)) 0x50 n s i)) (g .start) (g .reads);
         tree = subst (λ i. typeAt d s at ≡ struct (g .attributes) (membersAt (d - 1) 0x50 n s i)) (g .start) (g .tree);
+        ends = subst (λ i. stepOf (readTy d s at) ≡ stepOf (readMembers (readTy (d - 1)) 0x50 n s i)) (g .start) (g .ends);
         inside = omega (arith, g .start, g .bound);
       }
 
@@ -89,6 +90,7 @@ module _ {d at : ℕ} {s : List ℕ} {f : Form} (o : Opened d at s f) (r : Reads
         tree =
             subst (λ i. typeAt d s at ≡ array (g .parts .attributes) (getD s (at + 10) 0) (exprAt (d - 1) s i) (typeAt (d - 1) s (g .j))) (g .parts .start)
             (g .parts .tree);
+        byte = refl;
         inside = omega (arith, g .parts .start, g .parts .bound);
       }
 

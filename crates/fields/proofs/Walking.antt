@@ -12,7 +12,7 @@ use types.Run.{OneOf}
 use denote.Enum.Declared.{tagOf}
 use lib.ListN.{length, drop, drop-of-length-le}
 use Rattle.meaning.specs.Tree.{primitive, Member, member, none, more, Definition, Bundle}
-use Rattle.meaning.specs.Lists.{any, firstIndex, lastIndex, orElse}
+use Rattle.meaning.specs.Lists.{any, lastIndex, orElse}
 use Rattle.names.specs.Names.{place}
 use Rattle.meaning.specs.Lookup.{listOf, definitionOf}
 use Rattle.meaning.specs.ReadType.{readTy, readMember, readMembers}
@@ -21,24 +21,20 @@ use Rattle.bundle.specs.View.{Reads}
 use Rattle.bundle.specs.Definitions.{typeAt, membersAt, bundleOf, definitionAt, Table}
 use Rattle.bundle.proofs.LookupLaws.{from-place, placed-at}
 use Rattle.bundle.proofs.Trees.{many-first, many-rest, many-value}
-use Rattle.sizes.proofs.Parts.{members-none}
+use Rattle.bundle.proofs.Parts.{members-none}
 use Rattle.fields.specs.declared.Field.{Field}
 use Rattle.fields.specs.declared.Place.{Place}
 use Rattle.fields.specs.declared.Shape.{Shape}
 use Rattle.fields.proofs.Shape.{the-type}
 use Rattle.fields.proofs.ShapeLaws.{shape-other}
 use Rattle.fields.specs.Shapes.{StructAt, ShapeOf, FieldAt, PlacedAt}
-use Rattle.fields.specs.Sought.{sought, isSought, holdsRef, firstShown, lastShown}
+use Rattle.fields.specs.Sought.{sought, isSought, holdsRef, lastShown}
 
 -- a member with nothing in it, for where none was read
 abbrev zeroMember : Member
 zeroMember = member 0 0 (primitive 0)
 
 -- what is shown of an index in the rest of a list
-first-shift : (k z : ℕ) (o : Option ℕ) → firstShown k z (Option·map suc o) ≡ firstShown (k + 1) z o
-first-shift k z nothing = refl
-first-shift k z (some i) = omega arith
-
 last-shift : (k z : ℕ) (t : Bool) (o : Option ℕ) → lastShown k z (orElse (Option·map suc o) (cond t (some 0) nothing)) ≡ lastShown (k + 1) (cond t (k + 1) z) o
 last-shift k z true nothing = omega arith
 last-shift k z false nothing = refl
@@ -80,45 +76,16 @@ module _ {d : ℕ} {s : List ℕ} {count left next : ℕ} (p : Passing d s count
 abbrev fields : ℕ → List ℕ → ℕ → ℕ → List Member
 fields d s n at = listOf (membersAt d 0x50 n s at)
 
--- the first that passes among those left is the first of all
-pub record Firsting (d : ℕ) (s : List ℕ) (count at : ℕ) (byType : Bool) (x left next : ℕ) : Type 0 where
-  pub pass : Passing d s count left next
-  pub first : firstShown (count - left) count (firstIndex (sought byType x) (fields d s left next)) ≡ firstShown 0 count (firstIndex (sought byType x) (fields d s count at))
-
 -- the last that passes among those left, or else `last`, is the last of all
 pub record Lasting (d : ℕ) (s : List ℕ) (count at : ℕ) (byType : Bool) (x left next last : ℕ) : Type 0 where
   pub pass : Passing d s count left next
   pub is : lastShown (count - left) last (lastIndex (sought byType x) (fields d s left next)) ≡ lastShown 0 0 (lastIndex (sought byType x) (fields d s count at))
-
-pub firsting-start : (d : ℕ) (s : List ℕ) (count at : ℕ) (byType : Bool) (x : ℕ) → Reads (readMembers (readTy d) 0x50 count s at) → Firsting d s count at byType x count at
-firsting-start d s count at byType x r = record {
-  pass = record { bound = omega arith; reads = r };
-  first = ap (λ k. firstShown k count (firstIndex (sought byType x) (fields d s count at))) (omega arith);
-}
 
 pub lasting-start : (d : ℕ) (s : List ℕ) (count at : ℕ) (byType : Bool) (x : ℕ) → Reads (readMembers (readTy d) 0x50 count s at) → Lasting d s count at byType x count at 0
 lasting-start d s count at byType x r = record {
   pass = record { bound = omega arith; reads = r };
   is = ap (λ k. lastShown k 0 (lastIndex (sought byType x) (fields d s count at))) (omega arith);
 }
-
-module _ {d : ℕ} {s : List ℕ} {count at : ℕ} {byType : Bool} {x left next : ℕ} (c : Firsting d s count at byType x left next) where
-  module _ (h : 0 < left) {f : Field} (g : FieldAt d s next f) where
-    pub firsting-hit : true ≡ isSought byType x (f .name) (typeAt d s (f .at)) → count - left ≡ firstShown 0 count (firstIndex (sought byType x) (fields d s count at))
-    firsting-hit e = sym (ap (λ ms. firstShown (count - left) count (firstIndex (sought byType x) (listOf ms))) (passing-tree (c .pass) h g) ∙ rw (← e) (omega arith)) ∙ c .first
-
-    pub firsting-next : false ≡ isSought byType x (f .name) (typeAt d s (f .at)) → Firsting d s count at byType x (left - 1) (f .next)
-    firsting-next e = record {
-      pass = passing-next (c .pass) h g;
-      first =
-          ap (λ k. firstShown k count (firstIndex (sought byType x) (fields d s (left - 1) (f .next)))) (omega (arith, c .pass .bound))
-          ∙ sym (first-shift (count - left) count (firstIndex (sought byType x) (fields d s (left - 1) (f .next))))
-          ∙ sym (ap (λ ms. firstShown (count - left) count (firstIndex (sought byType x) (listOf ms))) (passing-tree (c .pass) h g) ∙ rw (← e))
-          ∙ c .first;
-    }
-
-  pub firsting-end : left ≡ 0 → count ≡ firstShown 0 count (firstIndex (sought byType x) (fields d s count at))
-  firsting-end e = sym (ap (λ ms. firstShown (count - left) count (firstIndex (sought byType x) (listOf ms))) (members-none d 0x50 s left next e)) ∙ c .first
 
 module _ {d : ℕ} {s : List ℕ} {count at : ℕ} {byType : Bool} {x left next last : ℕ} (c : Lasting d s count at byType x left next last) where
   pub lasting-next : (h : 0 < left) {f : Field} (g : FieldAt d s next f) (hit : Bool) {last′ : ℕ} → hit ≡ isSought byType x (f .name) (typeAt d s (f .at))

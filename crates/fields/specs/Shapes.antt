@@ -29,6 +29,7 @@ pub record StructAt (d : ℕ) (s : List ℕ) (at n : ℕ) : Type 0 where
   pub attributes : Attributes
   pub reads : Reads (readMembers (readTy (d - 1)) 0x50 n s (at + 12))
   pub tree : typeAt d s at ≡ struct attributes (membersAt (d - 1) 0x50 n s (at + 12))
+  pub ends : stepOf (readTy d s at) ≡ stepOf (readMembers (readTy (d - 1)) 0x50 n s (at + 12))
   pub inside : at + 12 ≤ length s
 
 -- an enum, whose tag starts behind its body
@@ -46,6 +47,7 @@ pub record ArrayAt (d : ℕ) (s : List ℕ) (at jagged : ℕ) : Type 0 where
   pub size : Next element ≡ stepOf (readExpr (d - 1) s (at + 11))
   pub reads : Reads (readTy (d - 1) s element)
   pub tree : typeAt d s at ≡ array attributes jagged (exprAt (d - 1) s (at + 11)) (typeAt (d - 1) s element)
+  pub byte : jagged ≡ getD s (at + 10) 0
   pub inside : at + 11 ≤ length s
 
 -- a primitive, a union or a size-discriminated union

@@ -20,11 +20,6 @@ sought byType x m = isSought byType x (memberName m) (memberType m)
 abbrev pub holdsRef : ℕ → Ty → Bool
 holdsRef x t = holds (any (λ m. refersTo x (memberType m))) (asStruct t)
 
--- the index of the first, k places on, and z where there is none
-abbrev pub firstShown : ℕ → ℕ → Option ℕ → ℕ
-firstShown k z none = z
-firstShown k z (some i) = i + k
-
 -- one more than the index of the last, k places on, and z where there is none
 abbrev pub lastShown : ℕ → ℕ → Option ℕ → ℕ
 lastShown k z none = z

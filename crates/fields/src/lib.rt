@@ -6,21 +6,20 @@ use bundle::TypeForm;
 ghost use mathlib.Core.Path.{_≡_};
 ghost use mathlib.Core.Bool.{cond, _&&_};
 ghost use mathlib.Core.List.{[], _∷_};
-ghost use Prim.Native.Nat.{_+_, _≤_, _<_};
+ghost use Prim.Native.Nat.{_+_, _<_};
 ghost use lib.Dec.{eqb};
 ghost use lib.ListN.{getD};
 ghost use Rattle.meaning.specs.Kinds.{formOf};
-ghost use Rattle.meaning.specs.Lists.{firstIndex, lastIndex, holds};
+ghost use Rattle.meaning.specs.Lists.{lastIndex, holds};
 ghost use Rattle.meaning.specs.Lookup.{listOf, findType};
 ghost use Rattle.meaning.specs.ReadType.{readTy, readMember, readMembers};
-ghost use Rattle.meaning.specs.Reader.{little};
 ghost use Rattle.meaning.specs.Sizes.{isEnumWithConstantSizeVariants};
-ghost use Rattle.meaning.specs.Violations.{isEnumReferencingSameContainerStruct, structOf, standsBefore, standsAfter};
+ghost use Rattle.meaning.specs.Violations.{isEnumReferencingSameContainerStruct, structOf, standsBefore};
 ghost use Rattle.bundle.specs.declared.Step.the-variants.{Next};
 ghost use Rattle.bundle.specs.View.{formMeant, Reads, stepOf};
 ghost use Rattle.bundle.specs.Definitions.{typeAt, membersAt, bundleOf, Table};
 ghost use Rattle.fields.specs.Shapes.{ShapeOf, refShown, FieldAt, PlacedAt, Defines, FieldsOf};
-ghost use Rattle.fields.specs.Sought.{sought, isSought, holdsRef, firstShown, lastShown};
+ghost use Rattle.fields.specs.Sought.{sought, isSought, holdsRef, lastShown};
 
 // What a type's kind byte and body say: the count of a struct's fields, an array's jagged byte, a TypeRef's name.
 pub enum Shape {
@@ -123,32 +122,6 @@ fn is_sought(s: &[u8], field: Field, depth: usize, by_type: bool, name: u16) -> 
         return is_ref_to(shape, name);
     }
     name == field.name
-}
-
-// The index of the first of `count` fields that is sought, and the count where there is none.
-pub fn first_field(
-    s: &[u8],
-    at: usize,
-    depth: usize,
-    count: usize,
-    by_type: bool,
-    name: u16,
-) -> usize
-    requires { ⌜ Reads (readMembers (readTy depth) 0x50 count (now s) at) ⌝ }
-    ensures { λ r. ⌜ r ≡ firstShown 0 count (firstIndex (sought «by_type» name) (listOf (membersAt depth 0x50 count (now (s .entry)) at))) ⌝ }
-{
-    let form = bundle::form_of(0x50);
-    let mut next = at;
-    let mut left = count;
-    while 0 < left {
-        let field = field_at(s, next, depth, form);
-        if is_sought(s, field, depth, by_type, name) {
-            return count - left;
-        }
-        next = field.next;
-        left -= 1;
-    }
-    count
 }
 
 // One of two numbers.
@@ -268,7 +241,7 @@ pub enum Fields {
 }
 
 // The fields of the first definition of the name, if that is a struct.
-fn struct_of(s: &[u8], places: &[u16], count: usize, name: u16) -> Fields
+pub fn struct_of(s: &[u8], places: &[u16], count: usize, name: u16) -> Fields
     requires { ⌜ Table (now s) count (now places) ⌝ }
     ensures { λ r. ⌜ FieldsOf (now (s .entry)) name r ⌝ }
 {
@@ -281,54 +254,6 @@ fn struct_of(s: &[u8], places: &[u16], count: usize, name: u16) -> Fields
         return Fields::No;
     };
     Fields::Of(at + 12, n)
-}
-
-// Whether in the first struct of the name `container` the last field that is a TypeRef to the name stands before the last that is
-// called `field`.
-pub fn stands_before(
-    s: &[u8],
-    places: &[u16],
-    count: usize,
-    name: u16,
-    container: u16,
-    field: u16,
-) -> bool
-    requires { ⌜ Table (now s) count (now places) ⌝ }
-    ensures { λ r. ⌜ r ≡ holds (standsBefore name (field ∷ [])) (structOf (bundleOf (now (s .entry))) container) ⌝ }
-{
-    let fields = struct_of(s, places, count, container);
-    let Fields::Of(at, n) = fields else {
-        return false;
-    };
-    let held = last_field(s, at, bundle::DEPTH_INSIDE, n, true, name);
-    let named = last_field(s, at, bundle::DEPTH_INSIDE, n, false, field);
-    if held == 0 {
-        return false;
-    }
-    held < named
-}
-
-// Whether in the first struct of the name `container` the first field that is called `field` stands after the index `j`.
-pub fn stands_after(
-    s: &[u8],
-    places: &[u16],
-    count: usize,
-    container: u16,
-    field: u16,
-    j: usize,
-) -> bool
-    requires { ⌜ Table (now s) count (now places) ⌝ }
-    ensures { λ r. ⌜ r ≡ holds (standsAfter j (field ∷ [])) (structOf (bundleOf (now (s .entry))) container) ⌝ }
-{
-    let fields = struct_of(s, places, count, container);
-    let Fields::Of(at, n) = fields else {
-        return false;
-    };
-    let named = first_field(s, at, bundle::DEPTH_INSIDE, n, false, field);
-    if named == n {
-        return false;
-    }
-    j < named
 }
 
 // Whether the first definition of the name is an enum of two variants or more, all primitives of one size.

@@ -5,6 +5,7 @@
 --     chain-none, chain-some                  the same of `chainOf`
 --     first-shortest, first-earliest          what `IsFirstWalk` says, in its two parts
 --     chain-self                              the chain from a name to itself
+--     none-from, none-to                      a name that no edge leads from, or to
 use Prim.Native.Nat.{ℕ, zero, suc, _≤_, _<_}
 use mathlib.Core.Path.{_≡_, refl, sym, ap, _∙_, subst}
 use mathlib.Core.Logic.{_⊎_, inl, inr, ⊎-elim, by-cases, _↔_}
@@ -136,3 +137,21 @@ module _ (g : Graph) where
       empty : (fs : List ℕ) → ([] ≡ fs) ⊎ Before [] fs
       empty [] = inl refl
       empty (f ∷ fs) = inr (fewer (omega arith))
+
+  -- a walk ends where it starts, or where an edge does
+  walk-end : (a b : ℕ) (es : List ℕ) → IsWalk g a es b → (a ≡ b) ⊎ ((e : ℕ) × (e < g .count) × (g .to e ≡ b))
+  walk-end a b [] w = inl w
+  walk-end a b (e ∷ es) w = ⊎-elim (λ (p : g .to e ≡ b). inr (e, w .0, p)) (λ t. inr t) (walk-end (g .to e) b es (w .2))
+
+  pub none-from : (a b : ℕ) → ((e : ℕ) → e < g .count → g .from e ≡ a → ⊥) → (a ≡ b → ⊥) → chainOf g a b ≡ none
+  unfolding chainOf
+  none-from a b no-edge ne = rw (firstWalk-no a b no-walk)
+    where
+      no-walk : (es : List ℕ) → IsWalk g a es b → ⊥
+      no-walk [] w = ne w
+      no-walk (e ∷ es) w = no-edge e (w .0) (w .1)
+
+  pub none-to : (a b : ℕ) → ((e : ℕ) → e < g .count → g .to e ≡ b → ⊥) → (a ≡ b → ⊥) → chainOf g a b ≡ none
+  unfolding chainOf
+  none-to a b no-edge ne =
+      rw (firstWalk-no a b (λ es w. ⊎-elim ne (λ (t : (e : ℕ) × (e < g .count) × (g .to e ≡ b)). no-edge (t .0) (t .1) (t .2)) (walk-end a b es w)))

@@ -4,13 +4,13 @@ use fields::Shape;
 use validate::Position;
 use validate::Subject;
 ghost use mathlib.Core.Bool.{true, false};
-ghost use Prim.Native.Nat.{_≤_, _<_};
+ghost use Prim.Native.Nat.{_+_, _*_, _≤_, _<_};
 ghost use lib.ListN.{length};
 ghost use Rattle.meaning.specs.Violations.{violations};
 ghost use Rattle.bundle.specs.Definitions.{bundleOf};
 ghost use Rattle.bundle.specs.Opened.{LayoutOf};
-ghost use Rattle.chain.specs.Index.{Workspace};
 ghost use Rattle.sizes.specs.Tests.{Acyclic, Kept};
+ghost use Rattle.field_index.specs.Noted.{Noted};
 ghost use Rattle.checks.specs.Checks.{EdgesPrepared};
 ghost use Rattle.validate.specs.Validating.{Wrote, Room, violationsAt};
 
@@ -22,22 +22,13 @@ fn validate_type(
     kept: &mut [u8; bundle::DEFINITIONS],
     nested: &mut [u8; bundle::DEFINITIONS],
     i: usize,
-    names: &[u16],
-    table: &[u16],
-    ends: &[u16],
-    first: &[u16],
-    links: &[u16],
-    m: usize,
-    queue: &mut [u16],
-    parents: &mut [u16],
-    marks: &mut [u16],
-    list: &mut [u16],
+    edges: &[u16],
+    work: &mut [u16],
     out: &mut [u8],
     position: Position,
 ) -> Position
-    requires { ⌜ EdgesPrepared (now s) layout (now names) (now table) (now ends) (now first) (now links) m × Workspace (layout .edges) (now queue) (now parents) ⌝ }
-    requires { ⌜ LayoutOf (now s) layout (now places) × (i < layout .definitions) ⌝ }
-    requires { ⌜ (1025 ≤ length (now list)) × Room position (violationsAt (now s) (now places) i) ⌝ }
+    requires { ⌜ EdgesPrepared (now s) layout (now edges) × (7 * layout .edges + 5 ≤ length (now work)) ⌝ }
+    requires { ⌜ LayoutOf (now s) layout (now places) × (i < layout .definitions) × Room position (violationsAt (now s) (now places) i) × Noted (now s) (now places) (layout .definitions) ⌝ }
     requires { ⌜ Acyclic (now s) × Kept (now s) false (now kept) × Kept (now s) true (now nested) ⌝ }
     ensures { λ r. ⌜ Wrote (violationsAt (now (s .entry)) (now (places .entry)) i) (now (out .entry)) position (now (out .exit)) r × Kept (now (s .entry)) false (now (kept .exit)) × Kept (now (s .entry)) true (now (nested .exit)) ⌝ }
 {
@@ -49,54 +40,39 @@ fn validate_type(
     };
     let shape = fields::shape_at(s, place.at, bundle::DEPTH_LIMIT);
     match shape {
-        Shape::Struct(n) => validators::validate_struct_field_constraints(
-            s,
-            places,
-            layout,
-            kept,
-            subject,
-            n,
-            list,
-            out,
-            position,
-        ),
+        Shape::Struct(n) => {
+            let list = 6 * layout.edges + 1;
+            validators::validate_struct_field_constraints(
+                s,
+                places,
+                layout,
+                subject,
+                n,
+                &mut work[list..],
+                out,
+                position,
+            )
+        }
         Shape::Enum => validators::validate_enum_tag_constraints(
             s,
             places,
             layout,
             kept,
             subject,
-            names,
-            table,
-            ends,
-            first,
-            links,
-            m,
-            queue,
-            parents,
-            marks,
-            list,
+            edges,
+            work,
             out,
             position,
         ),
-        Shape::Array(jagged) => validators::validate_array_size_constraints(
+        Shape::Array(_) => validators::validate_array_size_constraints(
             s,
             places,
             layout,
             kept,
             nested,
             subject,
-            jagged,
-            names,
-            table,
-            ends,
-            first,
-            links,
-            m,
-            queue,
-            parents,
-            marks,
-            list,
+            edges,
+            work,
             out,
             position,
         ),
@@ -112,22 +88,13 @@ pub fn validate_layout_constraints(
     layout: Layout,
     kept: &mut [u8; bundle::DEFINITIONS],
     nested: &mut [u8; bundle::DEFINITIONS],
-    names: &[u16],
-    table: &[u16],
-    ends: &[u16],
-    first: &[u16],
-    links: &[u16],
-    m: usize,
-    queue: &mut [u16],
-    parents: &mut [u16],
-    marks: &mut [u16],
-    list: &mut [u16],
+    edges: &[u16],
+    work: &mut [u16],
     out: &mut [u8],
     position: Position,
 ) -> Position
-    requires { ⌜ EdgesPrepared (now s) layout (now names) (now table) (now ends) (now first) (now links) m × Workspace (layout .edges) (now queue) (now parents) ⌝ }
-    requires { ⌜ LayoutOf (now s) layout (now places) ⌝ }
-    requires { ⌜ (1025 ≤ length (now list)) × Room position (violations (bundleOf (now s))) ⌝ }
+    requires { ⌜ EdgesPrepared (now s) layout (now edges) × (7 * layout .edges + 5 ≤ length (now work)) ⌝ }
+    requires { ⌜ LayoutOf (now s) layout (now places) × Room position (violations (bundleOf (now s))) × Noted (now s) (now places) (layout .definitions) ⌝ }
     requires { ⌜ Acyclic (now s) × Kept (now s) false (now kept) × Kept (now s) true (now nested) ⌝ }
     ensures { λ r. ⌜ Wrote (violations (bundleOf (now (s .entry)))) (now (out .entry)) position (now (out .exit)) r × Kept (now (s .entry)) false (now (kept .exit)) × Kept (now (s .entry)) true (now (nested .exit)) ⌝ }
 {
@@ -142,16 +109,8 @@ pub fn validate_layout_constraints(
             kept,
             nested,
             i,
-            names,
-            table,
-            ends,
-            first,
-            links,
-            m,
-            queue,
-            parents,
-            marks,
-            list,
+            edges,
+            work,
             out,
             reached,
         );

@@ -8,40 +8,42 @@ use mathlib.Core.Path.{_≡_, refl, sym, ap, ap₂, subst, _∙_}
 use lib.Dec.{eqb}
 use lib.ListN.{length, getD, drop, set, length-append, length-drop, drop-of-length-le}
 use lib.Seq.{drop-cons, set-at}
-use Rattle.names.specs.Names.{distinct, numbering, nameCount}
+use Rattle.table.specs.Table.{Members, Entered}
+use Rattle.names.specs.Names.{distinct, numbering}
 use Rattle.names.specs.Documents.{Item, byte, name, bytes, names, renumberItems}
 use Rattle.names.specs.Records.{itemsIn, WholeIn, items, Whole, renumberBytes}
-use Rattle.names.specs.Tables.{TableOf, Entered}
+use Rattle.names.specs.Tables.{Holds}
 use Rattle.names.proofs.Items.{names-append, bytes-append, renumber-byte, renumber-name}
-use Rattle.names.proofs.Tables.{entered-number, entered-table, count-next}
+use Rattle.names.proofs.Tables.{distinct-next, count-next, held-none, entered-place, entered-held}
 use Rattle.meaning.specs.Kinds.{body}
-use Rattle.meaning.specs.Encoding.{Bytes}
 use Rattle.meaning.specs.Reader.{little}
 use Rattle.meaning.proofs.Heads.{little-2}
+use Rattle.bundle.specs.Definitions.{buckets}
 use Rattle.renumber.specs.Scan.{nameFirst, behind, Put}
 
--- the bytes s are scanned up to `at`, where the parts p of a body are left: the places o have become out, the table is t and
--- the next number next
+-- the bytes s are scanned up to `at`, where the parts p of a body are left: the places o have become out, the table t has the names, and
+-- next is the next number
 pub record Scan (s o out t : List ℕ) (next at : ℕ) (p : List Bool) : Type 0 where
   pub done : List Item
   pub found : items body s ≡ done ++ itemsIn body p (drop at s)
   pub whole : WholeIn body p (drop at s)
   pub written : out ≡ bytes (renumberItems done) ++ drop at o
   pub size : length (bytes (renumberItems done)) ≡ at
-  pub table : TableOf t (names done)
+  pub table : Holds t buckets (distinct (names done))
   pub count : next ≡ length (distinct (names done))
-  pub few : next ≤ at + 1
+  pub few : 2 * next ≤ at + 2
   pub within : at ≤ length s
   pub room : length s ≤ length o
 
-pub scan-start : (s o t : List ℕ) → Whole body s → TableOf t [] → length s ≤ length o → Scan s o o t 1 0 []
-scan-start s o t whole table room = record {
+-- the table has 0
+pub scan-start : (s o : List ℕ) {t u : List ℕ} {r : ℕ} → Whole body s → length s ≤ length o → Members t 0 buckets 0 → Entered t 0 buckets 0 0 r u → Scan s o o u 1 0 []
+scan-start s o whole room m e = record {
   done = [];
   found = refl;
   whole = whole;
   written = refl;
   size = refl;
-  table = table;
+  table = entered-held (held-none m) e;
   count = refl;
   few = omega arith;
   within = omega arith;
@@ -89,12 +91,15 @@ module _ {s o out t : List ℕ} {next at : ℕ} {p : List Bool} (g : Scan s o ou
   pub scan-length : length out ≡ length o
   scan-length = rw (g .written, length-append, g .size, length-drop) (omega (arith, g .within, g .room))
 
+  pub scan-members : Members t 0 buckets next
+  scan-members = rw (g .count) (g .table .all)
+
   -- one item more, i, which is written as j and ends at m
   module _ (i j : Item) (m : ℕ) (q : List Bool) (out′ u : List ℕ) (next′ : ℕ) where
     advance : itemsIn body p (drop at s) ≡ i ∷ itemsIn body q (drop m s) → WholeIn body q (drop m s)
         → renumberItems (g .done ++ i ∷ []) ≡ renumberItems (g .done) ++ j ∷ [] → at + length (bytes (j ∷ [])) ≡ m
-        → out′ ≡ bytes (renumberItems (g .done)) ++ (bytes (j ∷ []) ++ drop m o) → TableOf u (names (g .done ++ i ∷ []))
-        → next′ ≡ length (distinct (names (g .done ++ i ∷ []))) → next′ ≤ m + 1 → m ≤ length s
+        → out′ ≡ bytes (renumberItems (g .done)) ++ (bytes (j ∷ []) ++ drop m o) → Holds u buckets (distinct (names (g .done ++ i ∷ [])))
+        → next′ ≡ length (distinct (names (g .done ++ i ∷ []))) → 2 * next′ ≤ m + 2 → m ≤ length s
         → Scan s o out′ u next′ m q
     advance found whole renumbered ends written table count few within = record {
       done = g .done ++ i ∷ [];
@@ -122,7 +127,7 @@ module _ {s o out t : List ℕ} {next at : ℕ} {p : List Bool} (g : Scan s o ou
       (renumber-byte (g .done) b)
       refl
       (rw add-one (ap (λ l. set l at b) (g .written ∙ ap (w ++_) (drop-cons o at 0 (omega (arith, g .room)))) ∙ set-at w (getD o at 0) (drop (suc at) o) b at (g .size)))
-      (subst (TableOf t) (sym same) (g .table))
+      (subst (λ xs. Holds t buckets (distinct xs)) (sym same) (g .table))
       (g .count ∙ ap (λ xs. length (distinct xs)) (sym same))
       (omega (arith, g .few))
       (omega arith)
@@ -144,17 +149,17 @@ module _ {s o out t : List ℕ} {next at : ℕ} {p : List Bool} (g : Scan s o ou
   scan-there e = omega (arith, g .within, rw length-drop at (name-there p (drop at s) e (g .whole)))
 
   -- a name is renumbered
-  pub scan-name : Bytes s → nameFirst p ≡ true → (k : ℕ) (q : List Bool) → q ≡ behind p k
+  pub scan-name : nameFirst p ≡ true → (k : ℕ) (q : List Bool) → q ≡ behind p k
       → {out′ u : List ℕ} {next′ : ℕ} → Put s at t next out out′ u next′ → Scan s o out′ u next′ (at + 2) q
-  scan-name bound e k q left {out′} {u} {next′} put =
+  scan-name e k q left {out′} {u} {next′} put =
       advance (name n) (name r) (at + 2) q out′ u next′
-      (rw (two, left) (ap (itemsIn body p) rest ∙ items-name p b c k (drop (suc (suc at)) s) e ∙ ap (λ x. name x ∷ itemsIn body (behind p k) (drop (suc (suc at)) s)) (sym value)))
+      (rw (two, left) (ap (itemsIn body p) rest ∙ items-name p b c k (drop (suc (suc at)) s) e ∙ ap (λ y. name y ∷ itemsIn body (behind p k) (drop (suc (suc at)) s)) (sym value)))
       (rw (two, left) (whole-name p b c k (drop (suc (suc at)) s) e (subst (WholeIn body p) rest (g .whole))))
       (renumber-name d n ∙ ap (λ x. renumberItems d ++ name x ∷ []) (sym gives))
       refl
       (rw two (put .written ∙ ap (λ l. set (set l at (r % 256)) (at + 1) (r / 256)) (g .written ∙ ap (w ++_) places) ∙ stored w _ _ _ at (g .size) (r % 256) (r / 256)))
-      (subst (TableOf u) (sym seen) (entered-table (g .table) n-name entered))
-      (rw (seen, count-next, ← gives, ← (g .count)) (put .count))
+      (rw (seen, distinct-next) (entered-held (g .table) entered))
+      (rw (seen, distinct-next, count-next, ← gives, ← (g .count)) (put .count))
       (rw (put .count) (at-most (eqb r next)))
       there
     where
@@ -191,19 +196,16 @@ module _ {s o out t : List ℕ} {next at : ℕ} {p : List Bool} (g : Scan s o ou
       value : n ≡ b + 256 * c
       value = little-2 s at
 
-      n-name : n < nameCount
-      n-name = omega (arith, value, bound at, bound (at + 1))
-
-      entered : Entered t (length (distinct (names d))) n r u
+      entered : Entered t 0 buckets (length (distinct (names d))) n r u
       entered = rw (g .count) at (put .entered)
 
       gives : r ≡ numbering (names d) n
-      gives = entered-number (g .table) n-name entered
+      gives = entered-place (g .table) entered
 
       seen : names (d ++ name n ∷ []) ≡ names d ++ n ∷ []
       seen = names-append d (name n ∷ [])
 
-      at-most : (x : Bool) → cond x (suc next) next ≤ at + 2 + 1
+      at-most : (x : Bool) → 2 * cond x (next + 1) next ≤ at + 2 + 2
       at-most true = omega (arith, g .few)
       at-most false = omega (arith, g .few)
 

@@ -1,13 +1,13 @@
 -- The steps of a scan over records, which takes one part of a body after another.
-use Prim.Native.Nat.{ℕ, suc, _+_, _/_, _%_}
-use mathlib.Core.Bool.{Bool, false, cond}
+use Prim.Native.Nat.{ℕ, _+_, _/_, _%_}
+use mathlib.Core.Bool.{Bool, false}
 use mathlib.Core.List.{List, [], _∷_}
 use mathlib.Core.Path.{_≡_}
-use lib.Dec.{eqb}
-use lib.ListN.{set}
-use Rattle.names.specs.Tables.{Entered}
+use lib.ListN.{length, set}
+use Rattle.table.specs.Table.{grown, Entered}
 use Rattle.meaning.specs.Kinds.{parts, body}
 use Rattle.meaning.specs.Reader.{little}
+use Rattle.bundle.specs.Definitions.{buckets}
 use Rattle.renumber.specs.declared.Parts.{Parts}
 
 -- for each part that is left whether it is a name
@@ -24,9 +24,10 @@ abbrev pub behind : List Bool → ℕ → List Bool
 behind [] k = body k
 behind (x ∷ p) k = p
 
--- the name at `at` of the bytes s got its number by the table t, which became u; out became out′; next′ is the next number
+-- the name at `at` of the bytes s got its number by the table t with next names, which became u; out became out′; next′ is the next number
 pub record Put (s : List ℕ) (at : ℕ) (t : List ℕ) (next : ℕ) (out out′ u : List ℕ) (next′ : ℕ) : Type 0 where
   pub number : ℕ
-  pub entered : Entered t next (little s at 2) number u
+  pub entered : Entered t 0 buckets next (little s at 2) number u
+  pub long : length u ≡ length t
   pub written : out′ ≡ set (set out at (number % 256)) (at + 1) (number / 256)
-  pub count : next′ ≡ cond (eqb number next) (suc next) next
+  pub count : next′ ≡ grown next number

@@ -3,19 +3,20 @@ use bundle::Answer;
 use bundle::ExprForm;
 use bundle::Form;
 use bundle::Opening;
+use bundle::RecordForm;
 use bundle::TypeForm;
 ghost use mathlib.Core.Path.{_≡_};
-ghost use mathlib.Core.List.{[], _++_};
-ghost use Prim.Native.Nat.{_+_, _≤_, _<_};
+ghost use mathlib.Core.List.{_++_};
+ghost use Prim.Native.Nat.{_+_, _*_, _≤_, _<_};
 ghost use lib.ListN.{length, drop};
-ghost use Rattle.names.specs.Names.{nameCount};
 ghost use Rattle.names.specs.Records.{Whole, renumberBytes};
-ghost use Rattle.names.specs.Tables.{TableOf};
+ghost use Rattle.table.specs.Table.{Members};
 ghost use Rattle.meaning.specs.Kinds.{body, formParts};
 ghost use Rattle.meaning.specs.Limits.{sizeLimit};
 ghost use Rattle.meaning.specs.Calls.{Call};
 ghost use Rattle.meaning.specs.Due.{renumbering};
 ghost use Rattle.bundle.specs.View.{formMeant};
+ghost use Rattle.bundle.specs.Definitions.{buckets, placesEnd};
 ghost use Rattle.bundle.specs.Opened.{answerMeant};
 ghost use Rattle.renumber.specs.Scan.{due, nameFirst, behind, Put};
 
@@ -45,7 +46,11 @@ fn parts_of(form: Form) -> Parts
             TypeForm::SizeUnion => Parts(11, 0, 0),
         },
         Form::OfMember(w) => Parts(0, 1, w),
-        Form::OfRecord(before, names, behind) => Parts(before, names, behind),
+        Form::OfRecord(r) => match r {
+            RecordForm::Header => Parts(4, 1, 0),
+            RecordForm::Definition => Parts(0, 1, 0),
+            RecordForm::Edge => Parts(0, 2, 1),
+        },
         Form::Unknown => Parts(0, 0, 0),
     }
 }
@@ -73,26 +78,30 @@ fn behind_next(left: Parts, kind: u8) -> Parts
     parts_of(bundle::form_of(kind))
 }
 
-// Writes the number of the name at `at` to the same place of `out`. Gives the next number.
-fn put_name(s: &[u8], out: &mut [u8], table: &mut [u16], at: usize, next: u16) -> u16
+// Writes the number of the name at `at` to the same place of `out`: its place in the table, which has `next` names. Gives how many it has
+// then, which is the next number.
+fn put_name(s: &[u8], out: &mut [u8], table: &mut [u16], at: usize, next: usize) -> usize
     requires { ⌜ (at + 2 ≤ length (now s)) × (length (now s) ≤ length (now out)) ⌝ }
-    requires { ⌜ (length (now table) ≡ nameCount) × (next + 1 < nameCount) ⌝ }
+    requires { ⌜ Members (now table) 0 buckets next × (buckets + 2 * next + 2 ≤ length (now table)) × (next < 65535) ⌝ }
     ensures { λ r. ⌜ Put (now (s .entry)) at (now (table .entry)) next (now (out .entry)) (now (out .exit)) (now (table .exit)) r ⌝ }
 {
     let name = bundle::u16_at(s, at);
-    let number = names::number_of(table, next, name);
+    let number = table::enter(table, 0, bundle::BUCKETS, next, name);
     out[at] = (number % 256) as u8;
     out[at + 1] = (number / 256) as u8;
     if number == next { next + 1 } else { next }
 }
 
-// Writes whole records to the first places of `out`, with their names renumbered, by a table that holds no number yet.
+// Writes whole records to the first places of `out`, with their names renumbered. The table gets the names, 0 first, each by its first
+// appearance. A name has two bytes in the records and two places in the table.
 fn scan(s: &[u8], out: &mut [u8], table: &mut [u16])
     requires { ⌜ (length (now s) ≤ sizeLimit) × (length (now s) ≤ length (now out)) ⌝ }
-    requires { ⌜ Whole body (now s) × TableOf (now table) [] ⌝ }
+    requires { ⌜ Whole body (now s) × (buckets + 2 + length (now s) ≤ length (now table)) ⌝ }
     ensures { λ r. ⌜ now (out .exit) ≡ renumberBytes body (now (s .entry)) ++ drop (length (now (s .entry))) (now (out .entry)) ⌝ }
 {
-    let mut next: u16 = 1;
+    table::empty(table, 0, bundle::BUCKETS);
+    table::enter(table, 0, bundle::BUCKETS, 0, 0);
+    let mut next = 1;
     let mut left = Parts(0, 0, 0);
     let mut at = 0;
     while at < s.len() {
@@ -108,9 +117,10 @@ fn scan(s: &[u8], out: &mut [u8], table: &mut [u16])
     }
 }
 
-// Writes the bundle with its names renumbered to the first places of `out`, with a lent list of places.
+// Writes the bundle with its names renumbered to the first places of `out`, with a lent list of places: first for the definitions, then
+// for the names.
 fn renumber_in(bundle: &[u8], places: &mut [u16], out: &mut [u8]) -> Answer
-    requires { ⌜ 256 < length (now places) ⌝ }
+    requires { ⌜ (placesEnd ≤ length (now places)) × (length (now bundle) ≤ sizeLimit → buckets + 2 + length (now bundle) ≤ length (now places)) ⌝ }
     ensures { λ r. ⌜ Call (renumbering (now (bundle .entry))) (now (out .entry)) (now (out .exit)) (answerMeant r) ⌝ }
 {
     let opening = acceptance::open(bundle, places);
@@ -119,16 +129,18 @@ fn renumber_in(bundle: &[u8], places: &mut [u16], out: &mut [u8]) -> Answer
             if out.len() < bundle.len() {
                 return Answer::Refused(9);
             }
-            let mut table = [0u16; bundle::NAMES];
-            scan(bundle, out, &mut table);
+            scan(bundle, out, places);
             Answer::Accepted(bundle.len())
         }
         Opening::Refused(k) => Answer::Refused(k),
     }
 }
 
-// Writes the bundle with its names renumbered to the first places of `out`. A short bundle is not worth the clearing of a place for each
-// name to find its definition.
+// As many places as the names of any bundle may need.
+const NAME_PLACES: usize = bundle::BUCKETS + 2 + bundle::BYTE_LIMIT;
+
+// Writes the bundle with its names renumbered to the first places of `out`. A short bundle needs no more places for its names than for its
+// definitions, and is not worth the clearing of more.
 pub fn renumber(bundle: &[u8], out: &mut [u8]) -> Answer
     ensures { λ r. ⌜ Call (renumbering (now (bundle .entry))) (now (out .entry)) (now (out .exit)) (answerMeant r) ⌝ }
 {
@@ -136,6 +148,6 @@ pub fn renumber(bundle: &[u8], out: &mut [u8]) -> Answer
         let mut places = [0u16; bundle::PLACES];
         return renumber_in(bundle, &mut places, out);
     }
-    let mut places = [0u16; bundle::PLACES_BY_NAME];
+    let mut places = [0u16; NAME_PLACES];
     renumber_in(bundle, &mut places, out)
 }

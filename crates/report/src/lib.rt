@@ -5,20 +5,28 @@ ghost use Rattle.meaning.specs.Calls.{Call};
 ghost use Rattle.meaning.specs.Due.{reporting};
 ghost use Rattle.bundle.specs.Opened.{answerMeant};
 
-// Writes the report of a bundle of any length, with a place for every name.
+// Places for the definitions and the fields of a short bundle, and of any.
+const SHORT_PLACES: usize = field_index::PARTS_AT + (5 * bundle::SHORT_BYTES + 2) / 3;
+
+const PLACES: usize = field_index::PARTS_AT + (5 * bundle::BYTE_LIMIT + 2) / 3;
+
+// Writes the report of a bundle of any length.
 fn report_long(bundle: &[u8], out: &mut [u8]) -> Answer
     ensures { λ r. ⌜ Call (reporting (now (bundle .entry))) (now (out .entry)) (now (out .exit)) (answerMeant r) ⌝ }
 {
-    let mut places = [0u16; bundle::PLACES_BY_NAME];
+    let mut places = [0u16; PLACES];
     let opening = acceptance::open(bundle, &mut places);
     match opening {
-        Opening::Opened(layout) => report_opened::report_many(bundle, &places, layout, out),
+        Opening::Opened(layout) => {
+            field_index::note_structs(bundle, &mut places, layout.definitions);
+            report_opened::report_many(bundle, &places, layout, out)
+        }
         Opening::Refused(k) => Answer::Refused(k),
     }
 }
 
 // Writes the report of a bundle into the first places of `out`. A refusal writes nothing. A short bundle with few edges is not worth
-// the clearing of a place for every name. It is opened here: were `report_long` called only once, the compiled code would join it to
+// the clearing of places for a long one. It is opened here: were `report_long` called only once, the compiled code would join it to
 // this function, and a short bundle would touch every page of its lists.
 pub fn report(bundle: &[u8], out: &mut [u8]) -> Answer
     ensures { λ r. ⌜ Call (reporting (now (bundle .entry))) (now (out .entry)) (now (out .exit)) (answerMeant r) ⌝ }
@@ -26,15 +34,15 @@ pub fn report(bundle: &[u8], out: &mut [u8]) -> Answer
     if bundle::SHORT_BYTES < bundle.len() {
         return report_long(bundle, out);
     }
-    let mut places = [0u16; bundle::PLACES];
+    let mut places = [0u16; SHORT_PLACES];
     let opening = acceptance::open(bundle, &mut places);
     match opening {
         Opening::Opened(layout) => {
-            if layout.edges <= chain::FEW_EDGES {
-                report_opened::report_few(bundle, &places, layout, out)
-            } else {
-                report_long(bundle, out)
+            if chain::FEW_EDGES < layout.edges {
+                return report_long(bundle, out);
             }
+            field_index::note_structs(bundle, &mut places, layout.definitions);
+            report_opened::report_few(bundle, &places, layout, out)
         }
         Opening::Refused(k) => Answer::Refused(k),
     }

@@ -1,123 +1,53 @@
-// The report of a bundle that is opened: its edges prepared, with lists that have room for them.
+// The report of a bundle that is opened: its edges are prepared, and its violations written.
 use bundle::Answer;
 use bundle::Layout;
 ghost use mathlib.Core.Path.{_≡_};
 ghost use mathlib.Core.Bool.{false};
-ghost use Prim.Native.Nat.{_≤_};
+ghost use Prim.Native.Nat.{_+_, _*_, _≤_};
+ghost use lib.ListN.{length};
 ghost use Rattle.meaning.specs.Calls.{Call, result};
 ghost use Rattle.meaning.specs.Circle.{circles};
 ghost use Rattle.meaning.specs.Report.{report};
 ghost use Rattle.bundle.specs.Definitions.{bundleOf};
 ghost use Rattle.bundle.specs.Opened.{LayoutOf, answerMeant};
-ghost use Rattle.chain.specs.Index.{Room, Workspace};
+ghost use Rattle.field_index.specs.Noted.{Noted};
 
-// The report of an opened bundle, with lists that have room for its edges. What they hold before is free.
+// The report of an opened bundle, with slices that have room for its edges and a search. What they hold before is free.
 fn report_with(
     s: &[u8],
     places: &[u16],
     layout: Layout,
-    names: &mut [u16],
-    table: &mut [u16],
-    ends: &mut [u16],
-    first: &mut [u16],
-    links: &mut [u16],
-    queue: &mut [u16],
-    parents: &mut [u16],
-    marks: &mut [u16],
+    edges: &mut [u16],
+    work: &mut [u16],
     out: &mut [u8],
 ) -> Answer
-    requires { ⌜ Room (layout .edges) (now names) (now ends) (now first) (now links) × Workspace (layout .edges) (now queue) (now parents) ⌝ }
-    requires { ⌜ LayoutOf (now s) layout (now places) × (circles (bundleOf (now s)) ≡ false) ⌝ }
+    requires { ⌜ (9 * layout .edges + 257 ≤ length (now edges)) × (7 * layout .edges + 5 ≤ length (now work)) ⌝ }
+    requires { ⌜ LayoutOf (now s) layout (now places) × (circles (bundleOf (now s)) ≡ false) × Noted (now s) (now places) (layout .definitions) ⌝ }
     ensures { λ r. ⌜ Call (result (report (bundleOf (now (s .entry))))) (now (out .entry)) (now (out .exit)) (answerMeant r) ⌝ }
 {
     let mut kept = [0u8; bundle::DEFINITIONS];
     let mut nested = [0u8; bundle::DEFINITIONS];
-    let mut list = [0u16; bundle::CHAIN_LIMIT];
-    let m = chain::prepare(
-        s,
-        layout.edges_at,
-        layout.edges,
-        names,
-        table,
-        ends,
-        first,
-        links,
-    );
-    draft::write_report(
-        s,
-        places,
-        layout,
-        &mut kept,
-        &mut nested,
-        names,
-        table,
-        ends,
-        first,
-        links,
-        m,
-        queue,
-        parents,
-        marks,
-        &mut list,
-        out,
-    )
+    chain::prepare(s, layout.edges_at, layout.edges, edges);
+    draft::write_report(s, places, layout, &mut kept, &mut nested, edges, work, out)
 }
 
-// The report of an opened bundle with few edges, with short lists.
+// The report of an opened bundle with few edges.
 pub fn report_few(s: &[u8], places: &[u16], layout: Layout, out: &mut [u8]) -> Answer
     requires { ⌜ layout .edges ≤ 64 ⌝ }
-    requires { ⌜ LayoutOf (now s) layout (now places) × (circles (bundleOf (now s)) ≡ false) ⌝ }
+    requires { ⌜ LayoutOf (now s) layout (now places) × (circles (bundleOf (now s)) ≡ false) × Noted (now s) (now places) (layout .definitions) ⌝ }
     ensures { λ r. ⌜ Call (result (report (bundleOf (now (s .entry))))) (now (out .entry)) (now (out .exit)) (answerMeant r) ⌝ }
 {
-    let mut names = [0u16; chain::FEW_ENDS];
-    let mut table = [0u16; chain::FEW_NAMES];
-    let mut ends = [0u16; chain::FEW_ENDS];
-    let mut first = [0u16; chain::FEW_ENDS];
-    let mut links = [0u16; chain::FEW_EDGES];
-    let mut queue = [0u16; chain::FEW_CHAIN];
-    let mut parents = [0u16; chain::FEW_CHAIN];
-    let mut marks = [0u16; chain::FEW_ENDS];
-    report_with(
-        s,
-        places,
-        layout,
-        &mut names,
-        &mut table,
-        &mut ends,
-        &mut first,
-        &mut links,
-        &mut queue,
-        &mut parents,
-        &mut marks,
-        out,
-    )
+    let mut edges = [0u16; chain::FEW_PLACES];
+    let mut work = [0u16; search::FEW_PLACES];
+    report_with(s, places, layout, &mut edges, &mut work, out)
 }
 
-// The report of an opened bundle, with a table for every name of an edge.
+// The report of an opened bundle with any edges.
 pub fn report_many(s: &[u8], places: &[u16], layout: Layout, out: &mut [u8]) -> Answer
-    requires { ⌜ LayoutOf (now s) layout (now places) × (circles (bundleOf (now s)) ≡ false) ⌝ }
+    requires { ⌜ LayoutOf (now s) layout (now places) × (circles (bundleOf (now s)) ≡ false) × Noted (now s) (now places) (layout .definitions) ⌝ }
     ensures { λ r. ⌜ Call (result (report (bundleOf (now (s .entry))))) (now (out .entry)) (now (out .exit)) (answerMeant r) ⌝ }
 {
-    let mut names = [0u16; bundle::ENDS];
-    let mut table = [0u16; bundle::NAMES];
-    let mut ends = [0u16; bundle::ENDS];
-    let mut first = [0u16; bundle::ENDS];
-    let mut links = [0u16; bundle::EDGES];
-    let mut queue = [0u16; bundle::CHAIN_LIMIT];
-    let mut parents = [0u16; bundle::CHAIN_LIMIT];
-    let mut marks = [0u16; bundle::ENDS];
-    report_with(
-        s,
-        places,
-        layout,
-        &mut names,
-        &mut table,
-        &mut ends,
-        &mut first,
-        &mut links,
-        &mut queue,
-        &mut parents,
-        &mut marks,
-        out,
-    )
+    let mut edges = [0u16; chain::PLACES];
+    let mut work = [0u16; search::PLACES];
+    report_with(s, places, layout, &mut edges, &mut work, out)
 }

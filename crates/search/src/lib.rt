@@ -1,140 +1,184 @@
-// The search for a chain over prepared edges, and the call for one chain of a bundle.
-use chain::Explored;
+// The search for chains to one name over prepared edges: one search backwards from the name says how far each name is from it. Where a name
+// is reached, the hops say where each chain goes on, and its chain is read off; they are set once, before the first chain is. The slice that
+// is lent has places that follow from the count of the edges:
+//     0                     0 where no search was made, 1 where it is known how far each number is, 2 where the hops are set too
+//     3 x + 1               how far the number x is from the name: one more than the fewest edges, and 0 where it is not reached
+//     3 i + 2               entry i of the queue, a number
+//     3 x + 3               the number that the chain of x goes on to
+//     6 count + 1 and on    the list for a chain
 use chain::Found;
 ghost use mathlib.Core.Path.{_≡_};
-ghost use mathlib.Core.List.{List, [], _∷_, _++_};
-ghost use mathlib.Core.Option.{some};
-ghost use Prim.Native.Nat.{ℕ, _+_, _≤_, _<_};
-ghost use lib.ListN.{length, getD, drop};
-ghost use Rattle.meaning.specs.Chain.{Graph, chainOf};
+ghost use mathlib.Core.List.{List, map};
+ghost use Prim.Native.Nat.{ℕ, suc, _+_, _*_, _≤_, _<_};
+ghost use lib.ListN.{length, getD, take};
+ghost use Rattle.meaning.specs.Chain.{chainOf};
 ghost use Rattle.chain.specs.Found.{Answers};
-ghost use Rattle.chain.specs.Members.{Members};
-ghost use Rattle.chain.specs.Index.{Prepared, Workspace, entryName};
-ghost use Rattle.chain.specs.Queue.{Rising, chainTo, namesOf, Spent};
+ghost use Rattle.chain.specs.Index.{namesIn, nameIn, named, Indexed};
+ghost use Rattle.search.specs.Work.{farIn, hopIn, listIn, along, Exploring, FarFrom, Hopped, Added, Below, Measured, Sought, Lent};
 
-// How many names the chain of entry `entry` has.
-fn chain_len(parents: &[u16], entry: usize) -> usize
-    requires { ⌜ (entry < length (now parents)) × Rising (now parents) (entry + 1) ⌝ }
-    ensures { λ r. ⌜ (r ≤ entry + 1) × ((names : List ℕ) → r ≡ length (chainTo names (now (parents .entry)) entry)) ⌝ }
+// How many places are lent: for a search over few edges, and over as many as a bundle can have.
+pub const FEW_PLACES: usize = 7 * chain::FEW_EDGES + 5;
+
+pub const PLACES: usize = 7 * bundle::EDGES + 5;
+
+// Says of each of m numbers that it is not reached.
+fn clear(work: &mut [u16], m: usize)
+    requires { ⌜ (m ≤ 2048) × (3 * m < length (now work)) ⌝ }
+    ensures { λ _. ⌜ ((x : ℕ) → x < m → farIn (now (work .exit)) x ≡ 0) ⌝ }
 {
-    let mut i = entry;
-    let mut len = 1;
-    while i != 0 {
-        i = parents[i] as usize;
-        len += 1;
+    let mut x = 0;
+    while x < m {
+        work[3 * x + 1] = 0;
+        x += 1;
     }
-    len
 }
 
-// Writes the names of the chain of entry `entry`, of `len` names, into the first places of `list`, from the last to the first.
-fn fill(names: &[u16], queue: &[u16], parents: &[u16], entry: usize, len: usize, list: &mut [u16])
-    requires { ⌜ (entry < length (now queue)) × (entry < length (now parents)) × Rising (now parents) (entry + 1) ⌝ }
-    requires { ⌜ ((i : ℕ) → i < entry + 1 → getD (now queue) i 0 < length (now names)) ⌝ }
-    requires { ⌜ (len ≡ length (chainTo (namesOf (now names) (now queue)) (now parents) entry)) × (len ≤ length (now list)) ⌝ }
-    ensures { λ _. ⌜ now (list .exit) ≡ chainTo (namesOf (now (names .entry)) (now (queue .entry))) (now (parents .entry)) entry ++ drop len (now (list .entry)) ⌝ }
+// Adds the number `x`, so far off, to the `n` entries of the queue, unless it is reached. Returns how many there are.
+fn add_new(work: &mut [u16], n: usize, x: u16, far: u16) -> usize
+    requires { ⌜ (3 * x + 1 < length (now work)) × (n ≤ 2048) × (farIn (now work) x ≡ 0 → 3 * n + 2 < length (now work)) ⌝ }
+    ensures { λ r. ⌜ Added (now (work .entry)) n x far (now (work .exit)) r ⌝ }
 {
-    let mut i = entry;
-    let mut k = len;
-    while i != 0 {
-        k -= 1;
-        let x = queue[i] as usize;
-        list[k] = names[x];
-        i = parents[i] as usize;
+    let at = 3 * x as usize + 1;
+    if work[at] != 0 {
+        return n;
     }
-    let x = queue[0] as usize;
-    list[0] = names[x];
+    work[at] = far;
+    work[3 * n + 2] = x;
+    n + 1
 }
 
-// Answers with the names of the chain of entry `entry` and then `to`.
-fn deliver(
-    names: &[u16],
-    queue: &[u16],
-    parents: &[u16],
-    entry: usize,
-    to: u16,
-    list: &mut [u16],
-) -> Found
-    requires { ⌜ (entry < length (now queue)) × (entry < length (now parents)) × Rising (now parents) (entry + 1) ⌝ }
-    requires { ⌜ ((i : ℕ) → i < entry + 1 → getD (now queue) i 0 < length (now names)) ⌝ }
-    ensures { λ r. ⌜ Answers (some (chainTo (namesOf (now (names .entry)) (now (queue .entry))) (now (parents .entry)) entry ++ to ∷ [])) (now (list .entry)) (now (list .exit)) r ⌝ }
+// Follows the edges that lead to entry `head` of the queue of `len` entries. Returns how many entries there are then.
+fn follow(edges: &[u16], count: usize, head: usize, len: usize, work: &mut [u16]) -> usize
+    requires { ⌜ Indexed count (now edges) × (head < len) × ((b : ℕ) × Exploring count (now edges) b (now work) len head 0) ⌝ }
+    ensures { λ r. ⌜ ((b : ℕ) → Exploring count (now (edges .entry)) b (now (work .entry)) len head 0 → Exploring count (now (edges .entry)) b (now (work .exit)) r (head + 1) 0) ⌝ }
 {
-    let len = chain_len(parents, entry);
-    if list.len() <= len {
-        return Found::Chain(len + 1);
+    let x = work[3 * head + 2] as usize;
+    let far = work[3 * x + 1] + 1;
+    let mut n = len;
+    let mut e = edges[3 * count + 1 + x] as usize;
+    while e < count {
+        n = add_new(work, n, edges[3 * e + 1], far);
+        e = edges[3 * e + 3] as usize;
     }
-    fill(names, queue, parents, entry, len, list);
-    list[len] = to;
-    Found::Chain(len + 1)
+    n
 }
 
-// Answers with one name.
-fn alone(name: u16, list: &mut [u16]) -> Found
-    ensures { λ r. ⌜ Answers (some (name ∷ [])) (now (list .entry)) (now (list .exit)) r ⌝ }
+// Says how far each number is from the number `to`.
+fn explore(edges: &[u16], count: usize, to: usize, work: &mut [u16])
+    requires { ⌜ Indexed count (now edges) × (7 * count + 5 ≤ length (now work)) × (to < namesIn (now edges)) ⌝ }
+    requires { ⌜ ((x : ℕ) → x < namesIn (now edges) → farIn (now work) x ≡ 0) ⌝ }
+    ensures { λ _. ⌜ FarFrom count (now (edges .entry)) to (now (work .exit)) ⌝ }
 {
-    if list.len() == 0 {
-        return Found::Chain(1);
+    work[3 * to + 1] = 1;
+    work[2] = to as u16;
+    let mut n = 1;
+    let mut head = 0;
+    while head < n {
+        n = follow(edges, count, head, n, work);
+        head += 1;
     }
-    list[0] = name;
-    Found::Chain(1)
 }
 
-// The chain from `from` to `to` over `count` edges that are prepared, with `m` names, into the first places of `list`.
-// From the first `spent` entries of the queue nothing leads to `to`: a search that fails leaves all its entries so, and the next one
-// to the same name ends at once where it starts at one of them. With no such entries, what the queue, the parents and the places hold
-// before is free.
-pub fn search(
-    names: &[u16],
-    table: &[u16],
-    ends: &[u16],
-    first: &[u16],
-    next: &[u16],
-    count: usize,
-    m: usize,
-    from: u16,
-    to: u16,
-    queue: &mut [u16],
-    parents: &mut [u16],
-    places: &mut [u16],
-    spent: &mut usize,
-    list: &mut [u16],
-) -> Found
-    requires { ⌜ ((g : Graph) × Prepared g count (now names) (now table) (now ends) (now first) (now next) m) ⌝ }
-    requires { ⌜ Workspace count (now queue) (now parents) × Members (now queue) (now places) (now spent) ⌝ }
-    ensures { λ r. ⌜ ((g : Graph) → Prepared g count (now (names .entry)) (now (table .entry)) (now (ends .entry)) (now (first .entry)) (now (next .entry)) m → Spent g (entryName (now (names .entry)) (now (queue .entry))) (now (spent .entry)) to → Answers (chainOf g from to) (now (list .entry)) (now (list .exit)) r × Spent g (entryName (now (names .entry)) (now (queue .exit))) (now (spent .exit)) to) ⌝ }
-    ensures { λ _. ⌜ Members (now (queue .exit)) (now (places .exit)) (now (spent .exit)) ⌝ }
+// Says where the chain of each number goes on: along the first edge that leads to a number one edge nearer.
+fn set_hops(edges: &[u16], count: usize, work: &mut [u16])
+    requires { ⌜ Indexed count (now edges) × (7 * count + 5 ≤ length (now work)) ⌝ }
+    requires { ⌜ ((x : ℕ) → x < namesIn (now edges) → farIn (now work) x ≤ 2048) ⌝ }
+    ensures { λ _. ⌜ Hopped count (now (edges .entry)) (now (work .entry)) 0 (now (work .exit)) ⌝ }
 {
-    if from == to {
-        return alone(from, list);
-    }
-    let a = chain::place_of(names, table, m, from);
-    if a == m {
-        return Found::Missing;
-    }
-    let b = chain::place_of(names, table, m, to);
-    if b == m {
-        return Found::Missing;
-    }
-    let known = *spent;
-    if chain::place_of(queue, places, known, a as u16) < known {
-        return Found::Missing;
-    }
-    *spent = 0;
-    let end = chain::reach(
-        ends,
-        first,
-        next,
-        count,
-        a as u16,
-        b as u16,
-        queue,
-        parents,
-        places,
-    );
-    match end {
-        Explored::From(followed) => deliver(names, queue, parents, followed - 1, to, list),
-        Explored::Nowhere(n) => {
-            *spent = n;
-            Found::Missing
+    let mut e = count;
+    while e != 0 {
+        e -= 1;
+        let from = edges[3 * e + 1] as usize;
+        let to = edges[3 * e + 2] as usize;
+        if work[3 * from + 1] == work[3 * to + 1] + 1 {
+            work[3 * from + 3] = to as u16;
         }
     }
+}
+
+// Searches backwards from the name `to`.
+fn search(edges: &[u16], count: usize, to: u16, work: &mut [u16])
+    requires { ⌜ Indexed count (now edges) × (7 * count + 5 ≤ length (now work)) ⌝ }
+    ensures { λ _. ⌜ Measured count (now (edges .entry)) to (now (work .exit)) ⌝ }
+{
+    let m = edges[0] as usize;
+    clear(work, m);
+    let x = table::place_of(edges, 5 * count + 1, chain::BUCKETS, m, to);
+    if m <= x {
+        return;
+    }
+    explore(edges, count, x, work);
+}
+
+// Sets the hops after a search, unless they are set.
+fn with_hops(edges: &[u16], count: usize, work: &mut [u16])
+    requires { ⌜ Indexed count (now edges) × ((to : ℕ) × Lent count (now edges) to (now work)) × (getD (now work) 0 0 ≡ 0 → ⊥) ⌝ }
+    ensures { λ _. ⌜ ((to : ℕ) → Lent count (now (edges .entry)) to (now (work .entry)) → Sought count (now (edges .entry)) to (now (work .exit)) × Lent count (now (edges .entry)) to (now (work .exit))) × ((x : ℕ) → farIn (now (work .exit)) x ≡ farIn (now (work .entry)) x) ⌝ }
+{
+    if work[0] != 1 {
+        return;
+    }
+    set_hops(edges, count, work);
+    work[0] = 2;
+}
+
+// Writes the names along the hops from the number `x`, of which there are `n`, into the list.
+fn fill(edges: &[u16], count: usize, x: usize, n: usize, work: &mut [u16])
+    requires { ⌜ Indexed count (now edges) × (7 * count + 5 ≤ length (now work)) × (n ≤ count + 1) ⌝ }
+    requires { ⌜ ((to : ℕ) × Sought count (now edges) to (now work)) × (x < namesIn (now edges)) × (farIn (now work) x ≡ n) ⌝ }
+    ensures { λ _. ⌜ ((k : ℕ) → n ≡ suc k → take n (listIn count (now (work .exit))) ≡ map (nameIn count (now (edges .entry))) (along (hopIn (now (work .entry))) k x)) × Below count (now (work .entry)) (now (work .exit)) ⌝ }
+{
+    let names = 5 * count + 1 + chain::BUCKETS;
+    let mut y = x;
+    let mut i = 0;
+    while i < n {
+        work[6 * count + 1 + i] = edges[names + 2 * y];
+        y = work[3 * y + 3] as usize;
+        i += 1;
+    }
+}
+
+// The chain from `from`, another name than the one that was searched from, into the list.
+fn chain_from(edges: &[u16], count: usize, from: u16, work: &mut [u16]) -> Found
+    requires { ⌜ Indexed count (now edges) × ((to : ℕ) × Lent count (now edges) to (now work)) × (getD (now work) 0 0 ≡ 0 → ⊥) ⌝ }
+    ensures { λ r. ⌜ ((to : ℕ) → Lent count (now (edges .entry)) to (now (work .entry)) → (from ≡ to → ⊥) → Answers (chainOf (named count (now (edges .entry))) from to) (listIn count (now (work .exit))) r × Lent count (now (edges .entry)) to (now (work .exit))) ⌝ }
+{
+    let m = edges[0] as usize;
+    let x = table::place_of(edges, 5 * count + 1, chain::BUCKETS, m, from);
+    if m <= x {
+        return Found::Missing;
+    }
+    let n = work[3 * x + 1] as usize;
+    if n == 0 {
+        return Found::Missing;
+    }
+    with_hops(edges, count, work);
+    fill(edges, count, x, n, work);
+    Found::Chain(n)
+}
+
+// Makes the search to the name `to` unless it was made.
+fn ready(edges: &[u16], count: usize, to: u16, work: &mut [u16])
+    requires { ⌜ Indexed count (now edges) × Lent count (now edges) to (now work) ⌝ }
+    ensures { λ _. ⌜ Lent count (now (edges .entry)) to (now (work .exit)) × (getD (now (work .exit)) 0 0 ≡ 0 → ⊥) ⌝ }
+{
+    if work[0] != 0 {
+        return;
+    }
+    search(edges, count, to, work);
+    work[0] = 1;
+}
+
+// The chain from `from` to `to` over `count` prepared edges, into the list. All calls with the same slice `work` are to one name, for
+// which the search is made once; place 0 of the slice is 0 before the first, and what else it holds is free.
+pub fn find(edges: &[u16], count: usize, from: u16, to: u16, work: &mut [u16]) -> Found
+    requires { ⌜ Indexed count (now edges) × Lent count (now edges) to (now work) ⌝ }
+    ensures { λ r. ⌜ Answers (chainOf (named count (now (edges .entry))) from to) (listIn count (now (work .exit))) r × Lent count (now (edges .entry)) to (now (work .exit)) ⌝ }
+{
+    if from == to {
+        work[6 * count + 1] = from;
+        return Found::Chain(1);
+    }
+    ready(edges, count, to, work);
+    chain_from(edges, count, from, work)
 }

@@ -30,9 +30,9 @@ use Rattle.bundle.proofs.TypeTrees.{type-deep, type-there, no-other, primitive-
 use Rattle.sizes.specs.Scan.{also, endOr, exprEnd, typeEnd, recordEnd, namesIn, formAt, pathAt, referencesFrom, pathsFrom, Fits}
 use Rattle.sizes.proofs.ScanLaws.{step, nothing-left}
 use Rattle.bundle.proofs.Trees.{ended-reads, ended}
-use Rattle.sizes.proofs.Heads.{ended-ok, body-where, counted-head, member-where}
+use Rattle.bundle.proofs.Heads.{ended-ok, body-where, counted-head, member-where}
 use Rattle.bundle.proofs.PartTrees.{member-type-reads, members-split}
-use Rattle.sizes.proofs.Parts.{GroupParts, struct-parts, struct-count, union-parts, union-count, sizeUnion-parts, sizeUnion-count, enum-at, array-at, own-reads, others-end}
+use Rattle.bundle.proofs.Parts.{GroupParts, struct-parts, struct-count, union-parts, union-count, sizeUnion-parts, sizeUnion-count, enum-at, array-at, own-reads, others-end}
 
 -- two ends of the same
 next-same : {m n : ℕ} → Next m ≡ Next n → m ≡ n

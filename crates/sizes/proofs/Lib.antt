@@ -1,6 +1,4 @@
 pub mod ScanLaws
-pub mod Heads
-pub mod Parts
 pub mod Flat
 pub mod NamesLaws
 pub mod PathLaws

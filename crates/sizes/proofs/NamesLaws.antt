@@ -23,7 +23,7 @@ unfolding formMeant namesIn
 no-names (OfExpr x) o = absurd (miss (1 ∷ 2 ∷ 3 ∷ 4 ∷ []) 0 tt o)
 no-names (OfType x) o = refl
 no-names (OfMember w) o = refl
-no-names (OfRecord a n c) o = refl
+no-names (OfRecord x) o = refl
 no-names Unknown o = refl
 
 -- a record of form f at `at`

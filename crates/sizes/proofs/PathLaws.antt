@@ -1,24 +1,19 @@
 -- The names of a field reference in the bytes, and the references of a run one by one.
 use Prim.Native.Nat.{ℕ, zero, suc, _+_, _-_, _*_, _≤_, _<_}
-use native.Mathlib.Nat.{not-suc-le-zero}
 use native.Mathlib.Omega.{arith}
-use mathlib.Core.Bool.{Bool, true, false, _&&_}
 use mathlib.Core.Logic.{_⊎_, inl, inr}
 use mathlib.Core.Option.{Option, none, some}
 use mathlib.Core.Path.{_≡_, refl, sym, ap, ap₂, _∙_}
-use mathlib.Core.List.{List, [], _∷_, map}
-use lib.Dec.{eqb}
+use mathlib.Core.List.{List, _∷_}
 use lib.ListN.{length}
-use borrow.Author.Tests.{eq-eqb, ne-eqb}
 use Rattle.meaning.specs.Kinds.{Form, OfExpr, OfType, OfMember, OfRecord, Unknown, Literal, FieldRef, Sizeof, Alignof, Binary, Unary}
-use Rattle.meaning.specs.Lists.{any, sameList}
 use Rattle.meaning.specs.Lookup.{Target, parseFieldReference}
 use Rattle.meaning.specs.Reader.{little, namesFrom}
 use Rattle.meaning.proofs.KindTable.{side}
-use Rattle.sizes.specs.declared.Found.the-variants.{At, Nothing}
+use Rattle.sizes.specs.declared.Found.the-variants.{At}
 use Rattle.sizes.specs.declared.Names.the-variants.{Of, No}
 use Rattle.sizes.specs.Paths.{Fit}
-use Rattle.sizes.specs.Scan.{also, exprEnd, formAt, recordEnd, namesIn, namesOf, namesAt, pathAt, referencesFrom, pathsFrom, foundOf, Fits}
+use Rattle.sizes.specs.Scan.{also, exprEnd, formAt, recordEnd, namesIn, namesOf, namesAt, pathAt, referencesFrom, foundOf, Fits}
 use Rattle.sizes.proofs.ScanLaws.{step, nothing-left}
 use Rattle.sizes.proofs.Flat.{length-names, path-is, record-forward}
 
@@ -69,46 +64,11 @@ module _ (s : List ℕ) where
         go (suc zero) h = absurd (omega arith)
         go (suc (suc k)) h = let p : at + 1 + 2 ≡ at + 3 = omega arith in let q : suc (suc k) - 1 ≡ suc k = omega arith in rw (p, q)
 
-  -- n names at p and q, one by one
-  module _ (p q n : ℕ) (l : 0 < n) where
-    first-of : (at k : ℕ) → 0 < k → namesFrom s at k ≡ little s at 2 ∷ namesFrom s (at + 2) (k - 1)
-    unfolding namesFrom
-    first-of at zero h = absurd (not-suc-le-zero h)
-    first-of at (suc k) h = let e : suc k - 1 ≡ k = omega arith in rw e
-
-    pub same-more : little s p 2 ≡ little s q 2 → sameList (namesFrom s (p + 2) (n - 1)) (namesFrom s (q + 2) (n - 1)) ≡ sameList (namesFrom s p n) (namesFrom s q n)
-    same-more e = rw (first-of p n l, first-of q n l, eq-eqb (little s p 2) (little s q 2) e)
-
-    pub same-not : (little s p 2 ≡ little s q 2 → ⊥) → sameList (namesFrom s p n) (namesFrom s q n) ≡ false
-    same-not e = rw (first-of p n l, first-of q n l, ne-eqb (little s p 2) (little s q 2) e)
-
-  pub same-none : (p q n : ℕ) → n ≡ 0 → sameList (namesFrom s p n) (namesFrom s q n) ≡ true
-  unfolding namesFrom
-  same-none p q n e = rw e
-
-  -- two references of n names each
-  pub same-written : (p q n : ℕ) → n ≡ length (pathAt s p) → n ≡ length (pathAt s q)
-      → sameList (namesFrom s (p + 1) n) (namesFrom s (q + 1) n) ≡ sameList (pathAt s p) (pathAt s q)
-  same-written p q n a b = sym (ap₂ sameList (path-names p ∙ ap (namesFrom s (p + 1)) (sym a)) (path-names q ∙ ap (namesFrom s (q + 1)) (sym b)))
-
--- lists of other lengths are not the same
-same-length : (xs ys : List ℕ) → (length ys ≡ length xs → ⊥) → sameList xs ys ≡ false
-same-length [] [] h = absurd (h refl)
-same-length [] (y ∷ ys) h = refl
-same-length (x ∷ xs) [] h = refl
-same-length (x ∷ xs) (y ∷ ys) h = rw (same-length xs ys (λ e. h (ap suc e))) (go (eqb x y))
-  where
-    go : (b : Bool) → (b && false) ≡ false
-    go true = refl
-    go false = refl
-
-pub same-shorter : (s : List ℕ) (p q : ℕ) → (length (pathAt s q) ≡ length (pathAt s p) → ⊥) → sameList (pathAt s p) (pathAt s q) ≡ false
-same-shorter s p q h = same-length (pathAt s p) (pathAt s q) h
-
 module _ (s : List ℕ) (end : ℕ) where
   -- the first reference from `at` on is at p, and the others come behind its names
   pub record Split (at p : ℕ) : Type 0 where
     pub rest : referencesFrom s at end ≡ p ∷ referencesFrom s (p + 1 + 2 * length (pathAt s p)) end
+    pub here : referencesFrom s p end ≡ referencesFrom s at end
     pub from : at ≤ p
     pub before : p < end
 
@@ -135,11 +95,11 @@ module _ (s : List ℕ) (end : ℕ) where
         go : (x : Option ℕ) → namesIn (formAt s at) ≡ x → referencesFrom s at end ≡ also x at (referencesFrom s (recordEnd (formAt s at) s at) end) → Split at p
         go none n q =
             let g = later (e ∙ ap foundOf q) in
-            record { rest = q ∙ g .rest; from = omega (arith, g .from, record-forward s at); before = g .before }
+            record { rest = q ∙ g .rest; here = g .here ∙ sym q; from = omega (arith, g .from, record-forward s at); before = g .before }
         go (some k) n q =
             let i : p ≡ at = at-same (e ∙ ap foundOf q) in
             let b : recordEnd (formAt s at) s at ≡ p + 1 + 2 * length (pathAt s p) = names-end (formAt s at) at k n ∙ rw (i, path-is s at k n .1) in
-            record { rest = q ∙ ap₂ (λ x y. x ∷ referencesFrom s y end) (sym i) b; from = omega arith; before = omega arith }
+            record { rest = q ∙ ap₂ (λ x y. x ∷ referencesFrom s y end) (sym i) b; here = ap (λ x. referencesFrom s x end) i; from = omega arith; before = omega arith }
           where
             at-same : {x y : ℕ} → At x ≡ At y → x ≡ y
             at-same e = cc
@@ -168,21 +128,3 @@ module _ (s : List ℕ) (end : ℕ) where
 
       pub split-fits : Fits s (referencesFrom s (p + 1 + 2 * length (pathAt s p)) end)
       split-fits = both-fit .1
-
-    -- a test of the paths of the run
-    module _ {at : ℕ} (g : Split at p) (test : List ℕ → Bool) where
-      pub any-here : true ≡ test (pathAt s p) → any test (pathsFrom s at end) ≡ true
-      any-here q = rw (g .rest, ← q)
-
-      pub any-later : false ≡ test (pathAt s p) → any test (pathsFrom s (p + 1 + 2 * length (pathAt s p)) end) ≡ any test (pathsFrom s at end)
-      any-later q = rw (g .rest, ← q)
-
-  pub any-none : (at : ℕ) (test : List ℕ → Bool) → Nothing ≡ foundOf (referencesFrom s at end) → any test (pathsFrom s at end) ≡ false
-  any-none at test e = go (referencesFrom s at end) e
-    where
-      go : (ps : List ℕ) → Nothing ≡ foundOf ps → any test (map (pathAt s) ps) ≡ false
-      go [] e = refl
-      go (p ∷ ps) e = let z : _≡_ {A = ℕ} 0 1 = cc in absurd (omega arith)
-
-  pub any-over : (at : ℕ) (test : List ℕ → Bool) → end ≤ at → any test (pathsFrom s at end) ≡ false
-  any-over at test h = rw (nothing-left s at end h)

@@ -31,7 +31,7 @@ use Rattle.bundle.proofs.TypeTrees.{type-deep, type-there, no-other, primitive-
 use Rattle.meaning.proofs.KindTable.{and-0, and-1}
 use Rattle.bundle.proofs.Trees.{ended}
 use Rattle.bundle.proofs.PartTrees.{member-type-reads, others-read, members-split}
-use Rattle.sizes.proofs.Parts.{EnumParts, members-length, enum-at, array-at, members-none}
+use Rattle.bundle.proofs.Parts.{EnumParts, members-length, enum-at, array-at, members-none}
 use Rattle.sizes.specs.declared.Size.the-variants.{Bytes, Other}
 use Rattle.sizes.specs.Paths.{sizeShown}
 

@@ -1,29 +1,22 @@
 -- The field references of an expression or type that was read, as a scan over its records meets them.
-use Prim.Native.Nat.{ℕ, _+_, _-_, _≤_}
+use Prim.Native.Nat.{ℕ, _≤_}
 use native.Mathlib.Omega.{arith}
 use mathlib.Core.Bool.{Bool, true, false, _&&_}
-use mathlib.Core.Path.{_≡_, refl, sym, ap, ap₂, subst, _∙_}
+use mathlib.Core.Path.{_≡_, refl, sym, ap, ap₂, _∙_}
 use mathlib.Core.List.{List, [], _∷_, _++_, map}
 use lib.ListN.{length}
-use Rattle.meaning.specs.Kinds.{Form, OfType, TypeForm, Primitive, TypeRef, Struct, Union, Enum, Array, SizeUnion}
 use Rattle.meaning.specs.Limits.{depthLimit}
-use Rattle.meaning.specs.Lists.{any, sameList}
 use Rattle.meaning.specs.Tree.{Expr, literal, fieldRef, sizeof, alignof, binary, unary}
 use Rattle.meaning.specs.ReadExpr.{readExpr}
 use Rattle.meaning.specs.ReadType.{readTy}
 use Rattle.meaning.specs.References.{isConstant, collectFieldReferencesRecursive, collectFieldReferencesInTypeKind}
-use Rattle.meaning.specs.Violations.{typeNeedsFieldRefForLayout}
 use Rattle.bundle.specs.declared.Step.the-variants.{Next, Refused}
 use Rattle.bundle.specs.View.{stepOf, Reads}
-use Rattle.bundle.specs.Definitions.{typeAt, zeroGroup}
+use Rattle.bundle.specs.Definitions.{typeAt}
 use Rattle.bundle.specs.Expressions.{exprAt}
-use Rattle.bundle.proofs.ExprLaws.{Opened}
 use Rattle.bundle.proofs.Trees.{refused-no}
-use Rattle.bundle.proofs.TypeTrees.{primitive-tree, typeRef-tree, struct-tree, union-tree, sizeUnion-tree}
 use Rattle.sizes.specs.declared.Found.the-variants.{At, Nothing}
 use Rattle.sizes.specs.Scan.{pathAt, referencesFrom, pathsFrom, foundOf, Fits}
-use Rattle.bundle.proofs.Trees.{ended-reads}
-use Rattle.sizes.proofs.Parts.{enum-at, array-at}
 use Rattle.sizes.proofs.Flat.{expr-flat, type-flat, whole, whole-fits}
 
 -- nothing that was read is refused
@@ -59,9 +52,6 @@ module _ (d at m : ℕ) (s : List ℕ) (e : Next m ≡ stepOf (readExpr d s at))
   pub expr-fits : Fits s (referencesFrom s at m)
   expr-fits = whole-fits s (expr-flat s d at m e .1)
 
-  pub expr-any : (path : ℕ) → any (sameList (pathAt s path)) (pathsFrom s at m) ≡ any (sameList (pathAt s path)) (collectFieldReferencesRecursive (exprAt d s at))
-  expr-any path = ap (any (sameList (pathAt s path))) expr-references
-
   by-first : isConstant (exprAt d s at) ≡ isEmpty (referencesFrom s at m)
   by-first = constant-empty (exprAt d s at) ∙ ap isEmpty (sym expr-references) ∙ mapped (referencesFrom s at m)
     where
@@ -93,35 +83,3 @@ module _ (d at m : ℕ) (s : List ℕ) (l : d ≤ depthLimit) (e : Next m ≡ st
 
   pub type-fits : Fits s (referencesFrom s at m)
   type-fits = whole-fits s (type-flat s d l at m e .1)
-
--- the tag of an enum and the size of an array
-module _ {d at : ℕ} {s : List ℕ} {f : Form} (o : Opened d at s f) (r : Reads (readTy d s at)) where
-  pub tag-there : f ≡ OfType Enum → Reads (readExpr (d - 1) s (at + 12))
-  tag-there p = let a = enum-at o r p in subst (λ i. Reads (readExpr (d - 1) s i)) (a .parts .start) (ended-reads (readExpr (d - 1) s (a .i)) (a .j) (a .tag))
-
-  pub size-there : f ≡ OfType Array → Reads (readExpr (d - 1) s (at + 11))
-  size-there p = let a = array-at o r p in subst (λ i. Reads (readExpr (d - 1) s i)) (a .parts .start) (ended-reads (readExpr (d - 1) s (a .i)) (a .j) (a .size))
-
-  -- which references the layout of the type needs, by its form
-  module _ (path : List ℕ) where
-    abbrev needsBy : TypeForm → Bool
-    needsBy Primitive = false
-    needsBy TypeRef = false
-    needsBy Struct = false
-    needsBy Union = false
-    needsBy Enum = any (sameList path) (collectFieldReferencesRecursive (exprAt (d - 1) s (at + 12)))
-    needsBy Array = any (sameList path) (collectFieldReferencesRecursive (exprAt (d - 1) s (at + 11)))
-    needsBy SizeUnion = false
-
-    pub needs-by : (t : TypeForm) → f ≡ OfType t → typeNeedsFieldRefForLayout (typeAt d s at) path ≡ needsBy t
-    needs-by Primitive p = rw (primitive-tree o r p)
-    needs-by TypeRef p = rw (typeRef-tree o r p)
-    needs-by Struct p = rw (struct-tree o r zeroGroup p)
-    needs-by Union p = rw (union-tree o r zeroGroup p)
-    needs-by SizeUnion p = rw (sizeUnion-tree o r zeroGroup p)
-    needs-by Enum p =
-        let a = enum-at o r p in
-        rw (a .parts .tree) (ap (λ i. any (sameList path) (collectFieldReferencesRecursive (exprAt (d - 1) s i))) (a .parts .start))
-    needs-by Array p =
-        let a = array-at o r p in
-        rw (a .parts .tree) (ap (λ i. any (sameList path) (collectFieldReferencesRecursive (exprAt (d - 1) s i))) (a .parts .start))

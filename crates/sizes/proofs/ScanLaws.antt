@@ -1,12 +1,20 @@
 -- Going over the records of a run of bytes, one after another.
-use Prim.Native.Nat.{ℕ, zero, suc, _-_, _≤_, _<_}
+use Prim.Native.Nat.{ℕ, zero, suc, _+_, _-_, _≤_, _<_}
 use native.Mathlib.Omega.{arith}
 use mathlib.Core.Logic.{_⊎_, inl, inr}
 use mathlib.Core.Path.{_≡_, refl, sym, ap, _∙_}
 use mathlib.Core.List.{List, []}
 use borrow.Author.Tests.{lt-ltb, le-ltb}
 use Rattle.meaning.proofs.KindTable.{side}
-use Rattle.sizes.specs.Scan.{also, formAt, recordEnd, namesIn, positions, referencesFrom}
+use Rattle.meaning.specs.Kinds.{SizeUnion}
+use Rattle.meaning.specs.Limits.{depthLimit}
+use Rattle.meaning.specs.Tree.{Ty, primitive}
+use Rattle.meaning.specs.Reader.{Read, ok, refused}
+use Rattle.meaning.specs.ReadType.{readTy}
+use Rattle.bundle.specs.declared.Step.the-variants.{Next, Refused}
+use Rattle.bundle.specs.View.{stepOf}
+use Rattle.bundle.proofs.Heads.{ended-ok}
+use Rattle.sizes.specs.Scan.{endOr, typeEnd, also, formAt, recordEnd, namesIn, positions, referencesFrom}
 
 module _ (s : List ℕ) where
   -- a byte before the next record, and one at it
@@ -52,3 +60,16 @@ module _ (s : List ℕ) where
   pub nothing-left : (at end : ℕ) → end ≤ at → referencesFrom s at end ≡ []
   unfolding referencesFrom
   nothing-left at end h = let p : end - at ≡ 0 = omega arith in ap (λ k. positions s k at at) p ∙ none-left at at
+
+-- the end of a size-discriminated union
+pub union-next : (s : List ℕ) (at m : ℕ) → Next m ≡ stepOf (readTy depthLimit s at) → typeEnd SizeUnion s at ≡ m
+unfolding typeEnd
+union-next s at m e = rw (ended-ok (readTy depthLimit s at) m (primitive 0) e)
+
+pub union-refused : (s : List ℕ) (at k : ℕ) → Refused k ≡ stepOf (readTy depthLimit s at) → typeEnd SizeUnion s at ≡ at + 1
+unfolding typeEnd
+union-refused s at k e = go (readTy depthLimit s at) e
+  where
+    go : (x : Read Ty) → Refused k ≡ stepOf x → endOr (at + 1) x ≡ at + 1
+    go (ok t m) e = let z : _≡_ {A = ℕ} 0 1 = cc in absurd (omega arith)
+    go (refused j) e = refl

@@ -1,28 +1,26 @@
-// The field references in expressions and types, and which types have sizes that depend on them.
+// The field references in expressions and types, constant expressions, and the sizes of primitives.
 use bundle::Count;
 use bundle::ExprForm;
 use bundle::Form;
 use bundle::Step;
 use bundle::TypeForm;
 ghost use mathlib.Core.Path.{_≡_};
-ghost use Prim.Native.Nat.{_+_, _*_, _≤_, _<_};
+ghost use Prim.Native.Nat.{_≤_, _<_};
 ghost use lib.ListN.{length};
 ghost use Rattle.meaning.specs.Kinds.{OfType, Primitive, formOf};
 ghost use Rattle.meaning.specs.Limits.{sizeLimit};
-ghost use Rattle.meaning.specs.Lists.{any, all, sameList};
+ghost use Rattle.meaning.specs.Lists.{all};
 ghost use Rattle.meaning.specs.Lookup.{listOf, asPrimitive, parseFieldReference};
-ghost use Rattle.meaning.specs.Reader.{namesFrom};
 ghost use Rattle.meaning.specs.ReadExpr.{readExpr};
 ghost use Rattle.meaning.specs.ReadType.{readTy, readMembers};
-ghost use Rattle.meaning.specs.References.{isConstant, collectFieldReferencesRecursive};
+ghost use Rattle.meaning.specs.References.{isConstant};
 ghost use Rattle.meaning.specs.Sizes.{getPrimitiveSize, hasSize, oneSize, isEnumWithConstantSizeVariants};
-ghost use Rattle.meaning.specs.Violations.{typeNeedsFieldRefForLayout};
 ghost use Rattle.bundle.specs.declared.Step.the-variants.{Next};
 ghost use Rattle.bundle.specs.View.{exprFormMeant, typeFormMeant, formMeant, stepOf, Reads};
 ghost use Rattle.bundle.specs.Definitions.{typeAt, membersAt};
 ghost use Rattle.bundle.specs.Expressions.{exprAt};
 ghost use Rattle.sizes.specs.Paths.{Fit, targetMeant, sizeShown};
-ghost use Rattle.sizes.specs.Scan.{exprEnd, typeEnd, recordEnd, namesIn, namesOf, pathAt, referencesFrom, pathsFrom, foundOf, Fits};
+ghost use Rattle.sizes.specs.Scan.{exprEnd, typeEnd, recordEnd, namesIn, namesOf, pathAt, referencesFrom, foundOf};
 
 // The position of a field reference.
 pub enum Found {
@@ -76,7 +74,7 @@ fn record_end(s: &[u8], at: usize, form: Form) -> usize
         Form::OfExpr(e) => expr_end(at, e),
         Form::OfType(t) => type_end(s, at, t),
         Form::OfMember(w) => at + 3 + (w as usize),
-        Form::OfRecord(_, _, _) => at + 1,
+        Form::OfRecord(_) => at + 1,
         Form::Unknown => at + 1,
     }
 }
@@ -192,99 +190,6 @@ pub fn parse_field_reference(s: &[u8], at: usize, current: u16) -> Target
     }
 }
 
-// Whether the n names at `p` are those at `q`.
-fn same_names(s: &[u8], p: usize, q: usize, n: usize) -> bool
-    requires { ⌜ p + 2 * n ≤ length (now s) ⌝ }
-    requires { ⌜ q + 2 * n ≤ length (now s) ⌝ }
-    ensures { λ r. ⌜ r ≡ sameList (namesFrom (now (s .entry)) p n) (namesFrom (now (s .entry)) q n) ⌝ }
-{
-    let mut x = p;
-    let mut y = q;
-    let mut left = n;
-    while 0 < left {
-        if bundle::u16_at(s, x) != bundle::u16_at(s, y) {
-            return false;
-        }
-        x += 2;
-        y += 2;
-        left -= 1;
-    }
-    true
-}
-
-// Whether the field references at `p` and `q` are the same, name by name.
-fn same_path(s: &[u8], p: usize, q: usize) -> bool
-    requires { ⌜ Fit (now s) p ⌝ }
-    requires { ⌜ Fit (now s) q ⌝ }
-    ensures { λ r. ⌜ r ≡ sameList (pathAt (now (s .entry)) p) (pathAt (now (s .entry)) q) ⌝ }
-{
-    let n = path_length(s, p);
-    if path_length(s, q) != n {
-        return false;
-    }
-    same_names(s, p + 1, q + 1, n)
-}
-
-// Whether the field reference at `path` is one of those from `at` to `end`.
-fn has_reference(s: &[u8], at: usize, end: usize, path: usize) -> bool
-    requires { ⌜ end ≤ length (now s) ⌝ }
-    requires { ⌜ length (now s) ≤ sizeLimit ⌝ }
-    requires { ⌜ Fits (now s) (referencesFrom (now s) at end) ⌝ }
-    requires { ⌜ Fit (now s) path ⌝ }
-    ensures { λ r. ⌜ r ≡ any (sameList (pathAt (now (s .entry)) path)) (pathsFrom (now (s .entry)) at end) ⌝ }
-{
-    let mut next = at;
-    while next < end {
-        let found = next_reference(s, next, end);
-        let Found::At(p) = found else {
-            return false;
-        };
-        if same_path(s, path, p) {
-            return true;
-        }
-        let n = path_length(s, p);
-        next = p + 1 + 2 * n;
-    }
-    false
-}
-
-// Whether the field reference at `path` is one of the expression that was read at `at`.
-fn expr_has_reference(s: &[u8], at: usize, depth: usize, path: usize) -> bool
-    requires { ⌜ Reads (readExpr depth (now s) at) ⌝ }
-    requires { ⌜ length (now s) ≤ sizeLimit ⌝ }
-    requires { ⌜ Fit (now s) path ⌝ }
-    ensures { λ r. ⌜ r ≡ any (sameList (pathAt (now (s .entry)) path)) (collectFieldReferencesRecursive (exprAt depth (now (s .entry)) at)) ⌝ }
-{
-    let step = bundle::expr_at(s, at, depth);
-    match step {
-        Step::Next(end) => has_reference(s, at, end, path),
-        Step::Refused(_) => false,
-    }
-}
-
-// Whether the field reference at `path` is one of the tag or size of the enum or array that was read at `at`.
-pub fn type_needs_field_ref_for_layout(s: &[u8], at: usize, depth: usize, path: usize) -> bool
-    requires { ⌜ Reads (readTy depth (now s) at) ⌝ }
-    requires { ⌜ length (now s) ≤ sizeLimit ⌝ }
-    requires { ⌜ Fit (now s) path ⌝ }
-    ensures { λ r. ⌜ r ≡ typeNeedsFieldRefForLayout (typeAt depth (now (s .entry)) at) (pathAt (now (s .entry)) path) ⌝ }
-{
-    let kind = s[at];
-    let form = bundle::form_of(kind);
-    let Form::OfType(t) = form else {
-        return false;
-    };
-    match t {
-        TypeForm::Primitive => false,
-        TypeForm::TypeRef => false,
-        TypeForm::Struct => false,
-        TypeForm::Union => false,
-        TypeForm::Enum => expr_has_reference(s, at + 12, depth - 1, path),
-        TypeForm::Array => expr_has_reference(s, at + 11, depth - 1, path),
-        TypeForm::SizeUnion => false,
-    }
-}
-
 // U8 to U64, I8 to I64, Char, F16, F32, F64.
 const SIZES: [u8; 12] = [1, 2, 4, 8, 1, 2, 4, 8, 1, 2, 4, 8];
 
@@ -389,10 +294,4 @@ pub fn is_enum_with_constant_size_variants(s: &[u8], at: usize, depth: usize) ->
         return false;
     }
     one_size(s, after, depth - 1, n)
-}
-
-// The answer to a test of a type or its members: it holds, or it does not and they end there.
-pub enum Tested {
-    Holds,
-    Fails(usize),
 }

@@ -19,7 +19,7 @@ use Rattle.bundle.proofs.LookupLaws.{from-place, placed-at}
 use Rattle.bundle.proofs.Trees.{refused-no, ended-reads}
 use Rattle.sizes.specs.Scan.{pathsFrom}
 use Rattle.sizes.specs.Tests.{Kept}
-use Rattle.sizes.proofs.Parts.{members-none}
+use Rattle.bundle.proofs.Parts.{members-none}
 use Rattle.sizes.proofs.ReferenceLaws.{expr-references}
 use Rattle.fields.specs.declared.Field.{Field}
 use Rattle.fields.specs.declared.Place.{Place}

@@ -7,7 +7,7 @@ use mathlib.Core.Path.{_≡_, refl, sym, ap, subst, _∙_}
 use mathlib.Core.List.{List, [], _∷_, _++_, append-nil, map}
 use lib.Dec.{T, leb, leb→le, ltb}
 use borrow.Author.Tests.{lt-ltb}
-use lib.ListN.{length, getD, take, length-append}
+use lib.ListN.{length, getD, take, drop, length-append}
 use lib.Seq.{length-take-le}
 use Rattle.names.specs.Documents.{bytes}
 use Rattle.meaning.specs.Kinds.{formOf, lookup}
@@ -18,7 +18,7 @@ use Rattle.meaning.specs.Violations.{Violation, violation, checkEnumTagLayoutCy
 use Rattle.meaning.proofs.Lists.{flatMap-append}
 use Rattle.meaning.proofs.ExprSpans.{all-at}
 use Rattle.names.proofs.Items.{bytes-append}
-use Rattle.chain.specs.Index.{Workspace}
+use Rattle.chain.proofs.Parts.{whole-part}
 use Rattle.sizes.specs.Paths.{Fit}
 use Rattle.sizes.specs.Scan.{formAt, namesIn, namesAt, pathAt, referencesFrom, pathsFrom, Fits}
 use Rattle.sizes.proofs.PathLaws.{path-names}
@@ -126,23 +126,6 @@ wrote-both {vs} {ws} {out} {out′} {out″} {p} {q} {r} a b = record {
   counts = omega (arith, a .counts, b .counts, length-append vs ws);
   short = omega (arith, a .short, b .short, length-append vs ws, ap length (record-append vs ws), length-append (recordBytes vs) (recordBytes ws));
 }
-
--- the lists of the searches have kept their lengths
-pub record Lent (queue₀ parents₀ marks₀ queue parents marks : List ℕ) : Type 0 where
-  pub queues : length queue ≡ length queue₀
-  pub parented : length parents ≡ length parents₀
-  pub marked : length marks ≡ length marks₀
-
-pub lent-start : {queue parents marks : List ℕ} → Lent queue parents marks queue parents marks
-lent-start = record { queues = refl; parented = refl; marked = refl }
-
-module _ {queue₀ parents₀ marks₀ queue parents marks : List ℕ} (l : Lent queue₀ parents₀ marks₀ queue parents marks) where
-  pub lent-next : {queue′ parents′ marks′ : List ℕ} → length queue′ ≡ length queue → length parents′ ≡ length parents → length marks′ ≡ length marks
-      → Lent queue₀ parents₀ marks₀ queue′ parents′ marks′
-  lent-next q p m = record { queues = q ∙ l .queues; parented = p ∙ l .parented; marked = m ∙ l .marked }
-
-  pub lent-workspace : {n : ℕ} → Workspace n queue₀ parents₀ → Workspace n queue parents
-  lent-workspace w = record { for-queue = omega (arith, l .queues, w .for-queue); for-parents = omega (arith, l .parented, w .for-parents) }
 
 -- of the violations `whole`, those `left` are still to be written
 pub record Going (whole : List Violation) (out₀ : List ℕ) (p₀ : Position) (left : List Violation) (out : List ℕ) (p : Position) : Type 0 where
@@ -261,3 +244,7 @@ of-tag s n x {list} {r} tag e c = subst (λ t. Checked s n list r (λ i. checkRe
 pub of-size : (s : List ℕ) (n x : ℕ) {list : List ℕ} {r : Check} (tag : Bool) → tag ≡ false → Checked s n list r (λ i. checkArraySizeLayoutCycle (bundleOf s) i n (pathAt s x))
     → Checked s n list r (λ i. checkReference tag (bundleOf s) i n (pathAt s x))
 of-size s n x {list} {r} tag e c = subst (λ t. Checked s n list r (λ i. checkReference t (bundleOf s) i n (pathAt s x))) (sym e) c
+
+-- the chain stands in the part of the workspace that is lent
+pub checked-part : {s : List ℕ} {n : ℕ} (a : ℕ) (work : List ℕ) {r : Check} {o : ℕ → Option Violation} → Checked s n (drop a work) r o → Checked s n (take (length work - a) (drop a work)) r o
+checked-part {s} {n} a work {r} {o} c = subst (λ (xs : List ℕ). Checked s n xs r o) (sym (whole-part a work)) c

@@ -8,7 +8,7 @@ use lib.Dec.{ltb}
 use lib.ListN.{length, getD, take}
 use Rattle.names.specs.Documents.{bytes}
 use Rattle.meaning.specs.Limits.{edgeLimit}
-use Rattle.meaning.specs.Lists.{flatMap, onlyIf}
+use Rattle.meaning.specs.Lists.{filterMap, flatMap, onlyIf}
 use Rattle.meaning.specs.Report.{violationItems}
 use Rattle.meaning.specs.Tree.{Bundle}
 use Rattle.meaning.specs.Violations.{Violation, violation, checkEnumTagLayoutCycle, checkArraySizeLayoutCycle, validateType}
@@ -19,8 +19,10 @@ use Rattle.checks.specs.declared.Check.{Check}
 use Rattle.checks.specs.Checks.{violationOf, Fitting}
 use Rattle.meaning.specs.Reader.{little}
 use Rattle.bundle.specs.Definitions.{bundleOf, typeAt}
+use Rattle.sizes.specs.Scan.{pathsFrom}
 use Rattle.validate.specs.declared.Position.{Position}
 use Rattle.validate.specs.declared.Subject.{Subject}
+use Rattle.validate.specs.declared.References.{References}
 
 -- r is the record of what a check found, and has the type 0 where it found nothing
 pub record Recorded (s : List ℕ) (c : Check) (r : Record) : Type 0 where
@@ -62,6 +64,10 @@ pub record Room (p : Position) (vs : List Violation) : Type 0 where
 abbrev pub checkReference : Bool → Bundle → ℕ → ℕ → List ℕ → Option Violation
 checkReference true = checkEnumTagLayoutCycle
 checkReference false = checkArraySizeLayoutCycle
+
+-- what is found of a definition by its references
+abbrev pub foundIn : List ℕ → Subject → References → List Violation
+foundIn s d r = filterMap (checkReference (r .tag) (bundleOf s) (d .number) (d .name)) (pathsFrom s (r .at) (r .end))
 
 -- the violations of a definition
 abbrev pub violationsOf : List ℕ → Subject → List Violation

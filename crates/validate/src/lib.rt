@@ -1,4 +1,4 @@
-// The validators: they go through references, fields and definitions, and write a record for each violation.
+// The references of one definition, gone through one by one, and the record of a violation written.
 use bundle::Layout;
 use checks::Check;
 use checks::Reference;
@@ -7,19 +7,21 @@ use violation::Record;
 ghost use mathlib.Core.Path.{_≡_};
 ghost use mathlib.Core.Bool.{false};
 ghost use mathlib.Core.List.{[]};
-ghost use Prim.Native.Nat.{ℕ, _≤_, _<_};
+ghost use Prim.Native.Nat.{ℕ, _+_, _*_, _≤_, _<_};
 ghost use lib.ListN.{length, getD};
 ghost use Rattle.meaning.specs.Limits.{definitionLimit};
-ghost use Rattle.meaning.specs.Lists.{filterMap, push};
+ghost use Rattle.meaning.specs.Lists.{push};
 ghost use Rattle.bundle.specs.Definitions.{bundleOf};
 ghost use Rattle.bundle.specs.Opened.{LayoutOf};
-ghost use Rattle.chain.specs.Index.{Workspace};
+ghost use Rattle.search.specs.Work.{listIn, Lent};
 ghost use Rattle.sizes.specs.Paths.{Fit};
-ghost use Rattle.sizes.specs.Scan.{pathAt, pathsFrom, referencesFrom, Fits};
+ghost use Rattle.sizes.specs.Scan.{pathAt, referencesFrom, Fits};
 ghost use Rattle.sizes.specs.Tests.{Acyclic, Kept};
 ghost use Rattle.violation.specs.Records.{padded};
-ghost use Rattle.checks.specs.Checks.{violationOf, Fitting, Checked, EdgesPrepared, Searched};
-ghost use Rattle.validate.specs.Validating.{Recorded, Wrote, Room, recordWith, pathOfTwo, checkReference};
+ghost use Rattle.field_index.specs.Noted.{Noted};
+ghost use Rattle.containers.specs.Containers.{Known};
+ghost use Rattle.checks.specs.Checks.{violationOf, Fitting, Checked, EdgesPrepared};
+ghost use Rattle.validate.specs.Validating.{Recorded, Wrote, Room, recordWith, pathOfTwo, checkReference, foundIn};
 
 // How far a report is written: the place behind it, and the count of its violations.
 pub struct Position {
@@ -32,6 +34,13 @@ pub struct Subject {
     pub number: usize,
     pub name: u16,
     pub at: usize,
+}
+
+// The references of a definition, in the records from `at` to `end`: those of an enum's tag, or of an array's size where `tag` is not set.
+pub struct References {
+    pub tag: bool,
+    pub at: usize,
+    pub end: usize,
 }
 
 // Name k of the n names of the reference at `path`, and 0 where there are no more.
@@ -141,26 +150,16 @@ fn check_reference(
     places: &[u16],
     layout: Layout,
     kept: &mut [u8; bundle::DEFINITIONS],
+    known: &mut [u16; containers::KNOWN],
     name: u16,
     tag: bool,
     path: usize,
-    names: &[u16],
-    table: &[u16],
-    ends: &[u16],
-    first: &[u16],
-    links: &[u16],
-    m: usize,
-    queue: &mut [u16],
-    parents: &mut [u16],
-    marks: &mut [u16],
-    spent: &mut usize,
-    held: &mut usize,
-    list: &mut [u16],
+    edges: &[u16],
+    work: &mut [u16],
 ) -> Check
-    requires { ⌜ EdgesPrepared (now s) layout (now names) (now table) (now ends) (now first) (now links) m × Workspace (layout .edges) (now queue) (now parents) ⌝ }
-    requires { ⌜ LayoutOf (now s) layout (now places) × Acyclic (now s) × Kept (now s) false (now kept) ⌝ }
-    requires { ⌜ Fit (now s) path × (1025 ≤ length (now list)) × Searched (now s) layout (now names) (now queue) (now marks) (now spent) (now list) (now held) name ⌝ }
-    ensures { λ r. ⌜ Checked (now (s .entry)) name (now (list .exit)) r (λ i. checkReference tag (bundleOf (now (s .entry))) i name (pathAt (now (s .entry)) path)) × Kept (now (s .entry)) false (now (kept .exit)) × Searched (now (s .entry)) layout (now (names .entry)) (now (queue .exit)) (now (marks .exit)) (now (spent .exit)) (now (list .exit)) (now (held .exit)) name ⌝ }
+    requires { ⌜ EdgesPrepared (now s) layout (now edges) × Lent (layout .edges) (now edges) name (now work) × Fit (now s) path ⌝ }
+    requires { ⌜ LayoutOf (now s) layout (now places) × Acyclic (now s) × Kept (now s) false (now kept) × Noted (now s) (now places) (layout .definitions) × Known (now s) name (now known) ⌝ }
+    ensures { λ r. ⌜ Checked (now (s .entry)) name (listIn (layout .edges) (now (work .exit))) r (λ i. checkReference tag (bundleOf (now (s .entry))) i name (pathAt (now (s .entry)) path)) × Kept (now (s .entry)) false (now (kept .exit)) × Lent (layout .edges) (now (edges .entry)) name (now (work .exit)) × Known (now (s .entry)) name (now (known .exit)) ⌝ }
 {
     if tag {
         return cycles::check_enum_tag_layout_cycle(
@@ -168,77 +167,41 @@ fn check_reference(
             places,
             layout,
             kept,
+            known,
             name,
             path,
-            names,
-            table,
-            ends,
-            first,
-            links,
-            m,
-            queue,
-            parents,
-            marks,
-            spent,
-            held,
-            list,
+            edges,
+            work,
         );
     }
-    cycles::check_array_size_layout_cycle(
-        s,
-        layout,
-        name,
-        path,
-        names,
-        table,
-        ends,
-        first,
-        links,
-        m,
-        queue,
-        parents,
-        marks,
-        spent,
-        held,
-        list,
-    )
+    cycles::check_array_size_layout_cycle(s, layout, name, path, edges, work)
 }
 
-// Checks each reference from `at` to `end`, and writes what is found. All searches here are to one name, so that each may use what the
-// ones before it have left.
+// Checks each of the references, and writes what is found. All searches here are to one name, for which one is made.
 pub fn validate_references(
     s: &[u8],
     places: &[u16],
     layout: Layout,
     kept: &mut [u8; bundle::DEFINITIONS],
     subject: Subject,
-    tag: bool,
-    at: usize,
-    end: usize,
-    names: &[u16],
-    table: &[u16],
-    ends: &[u16],
-    first: &[u16],
-    links: &[u16],
-    m: usize,
-    queue: &mut [u16],
-    parents: &mut [u16],
-    marks: &mut [u16],
-    list: &mut [u16],
+    references: References,
+    edges: &[u16],
+    work: &mut [u16],
     out: &mut [u8],
     position: Position,
 ) -> Position
-    requires { ⌜ EdgesPrepared (now s) layout (now names) (now table) (now ends) (now first) (now links) m × Workspace (layout .edges) (now queue) (now parents) ⌝ }
-    requires { ⌜ LayoutOf (now s) layout (now places) × Acyclic (now s) × Kept (now s) false (now kept) × (subject .number < definitionLimit) ⌝ }
-    requires { ⌜ (1025 ≤ length (now list)) × (end ≤ length (now s)) × Fits (now s) (referencesFrom (now s) at end) ⌝ }
-    requires { ⌜ Room position (filterMap (checkReference tag (bundleOf (now s)) (subject .number) (subject .name)) (pathsFrom (now s) at end)) ⌝ }
-    ensures { λ r. ⌜ Wrote (filterMap (checkReference tag (bundleOf (now (s .entry))) (subject .number) (subject .name)) (pathsFrom (now (s .entry)) at end)) (now (out .entry)) position (now (out .exit)) r × Kept (now (s .entry)) false (now (kept .exit)) ⌝ }
+    requires { ⌜ EdgesPrepared (now s) layout (now edges) × (7 * layout .edges + 5 ≤ length (now work)) ⌝ }
+    requires { ⌜ LayoutOf (now s) layout (now places) × Acyclic (now s) × Kept (now s) false (now kept) × (subject .number < definitionLimit) × Noted (now s) (now places) (layout .definitions) ⌝ }
+    requires { ⌜ (references .end ≤ length (now s)) × Fits (now s) (referencesFrom (now s) (references .at) (references .end)) × Room position (foundIn (now s) subject references) ⌝ }
+    ensures { λ r. ⌜ Wrote (foundIn (now (s .entry)) subject references) (now (out .entry)) position (now (out .exit)) r × Kept (now (s .entry)) false (now (kept .exit)) ⌝ }
 {
     let i = subject.number;
     let name = subject.name;
-    let mut spent = 0;
-    let mut held = 0;
-    let mut next = at;
+    let end = references.end;
+    let list = 6 * layout.edges + 1;
+    let mut known = [0u16; containers::KNOWN];
+    work[0] = 0;
+    let mut next = references.at;
     let mut reached = position;
     while next < end {
         let reference = checks::reference_at(s, next, end);
@@ -250,25 +213,16 @@ pub fn validate_references(
             places,
             layout,
             kept,
+            &mut known,
             name,
-            tag,
+            references.tag,
             path,
-            names,
-            table,
-            ends,
-            first,
-            links,
-            m,
-            queue,
-            parents,
-            marks,
-            &mut spent,
-            &mut held,
-            list,
+            edges,
+            work,
         );
         match check {
             Check::Fine => {}
-            _ => reached = put_check(s, out, reached, i, name, check, list),
+            _ => reached = put_check(s, out, reached, i, name, check, &work[list..]),
         }
         next = after;
     }

@@ -1,17 +1,18 @@
-// The three validators, and the pass over the definitions.
+// The three validators.
 use bundle::Layout;
 use bundle::Step;
 use checks::Check;
 use validate::Position;
+use validate::References;
 use validate::Subject;
 ghost use mathlib.Core.Bool.{true, false};
-ghost use Prim.Native.Nat.{_≤_, _<_};
-ghost use lib.ListN.{length};
+ghost use Prim.Native.Nat.{_+_, _*_, _≤_, _<_};
+ghost use lib.ListN.{length, getD};
 ghost use Rattle.meaning.specs.Limits.{definitionLimit};
 ghost use Rattle.bundle.specs.Opened.{LayoutOf};
-ghost use Rattle.chain.specs.Index.{Workspace};
 ghost use Rattle.sizes.specs.Tests.{Acyclic, Kept};
 ghost use Rattle.fields.specs.Shapes.{StructAt, EnumAt, ArrayAt};
+ghost use Rattle.field_index.specs.Noted.{Noted};
 ghost use Rattle.checks.specs.Checks.{EdgesPrepared};
 ghost use Rattle.validate.specs.Validating.{Wrote, Room, violationsOf};
 
@@ -22,49 +23,38 @@ pub fn validate_enum_tag_constraints(
     layout: Layout,
     kept: &mut [u8; bundle::DEFINITIONS],
     subject: Subject,
-    names: &[u16],
-    table: &[u16],
-    ends: &[u16],
-    first: &[u16],
-    links: &[u16],
-    m: usize,
-    queue: &mut [u16],
-    parents: &mut [u16],
-    marks: &mut [u16],
-    list: &mut [u16],
+    edges: &[u16],
+    work: &mut [u16],
     out: &mut [u8],
     position: Position,
 ) -> Position
-    requires { ⌜ EdgesPrepared (now s) layout (now names) (now table) (now ends) (now first) (now links) m × Workspace (layout .edges) (now queue) (now parents) ⌝ }
-    requires { ⌜ LayoutOf (now s) layout (now places) × Acyclic (now s) × Kept (now s) false (now kept) × (subject .number < definitionLimit) ⌝ }
-    requires { ⌜ (1025 ≤ length (now list)) × EnumAt 24 (now s) (subject .at) × Room position (violationsOf (now s) subject) ⌝ }
+    requires { ⌜ EdgesPrepared (now s) layout (now edges) × (7 * layout .edges + 5 ≤ length (now work)) ⌝ }
+    requires { ⌜ LayoutOf (now s) layout (now places) × Acyclic (now s) × Kept (now s) false (now kept) × (subject .number < definitionLimit) × Noted (now s) (now places) (layout .definitions) ⌝ }
+    requires { ⌜ EnumAt 24 (now s) (subject .at) × Room position (violationsOf (now s) subject) ⌝ }
     ensures { λ r. ⌜ Wrote (violationsOf (now (s .entry)) subject) (now (out .entry)) position (now (out .exit)) r × Kept (now (s .entry)) false (now (kept .exit)) ⌝ }
 {
     let start = subject.at + 12;
     let step = bundle::expr_at(s, start, bundle::DEPTH_INSIDE);
     match step {
-        Step::Next(end) => validate::validate_references(
-            s,
-            places,
-            layout,
-            kept,
-            subject,
-            true,
-            start,
-            end,
-            names,
-            table,
-            ends,
-            first,
-            links,
-            m,
-            queue,
-            parents,
-            marks,
-            list,
-            out,
-            position,
-        ),
+        Step::Next(end) => {
+            let references = References {
+                tag: true,
+                at: start,
+                end: end,
+            };
+            validate::validate_references(
+                s,
+                places,
+                layout,
+                kept,
+                subject,
+                references,
+                edges,
+                work,
+                out,
+                position,
+            )
+        }
         Step::Refused(_) => position,
     }
 }
@@ -77,29 +67,22 @@ pub fn validate_array_size_constraints(
     kept: &mut [u8; bundle::DEFINITIONS],
     nested: &mut [u8; bundle::DEFINITIONS],
     subject: Subject,
-    jagged: u8,
-    names: &[u16],
-    table: &[u16],
-    ends: &[u16],
-    first: &[u16],
-    links: &[u16],
-    m: usize,
-    queue: &mut [u16],
-    parents: &mut [u16],
-    marks: &mut [u16],
-    list: &mut [u16],
+    edges: &[u16],
+    work: &mut [u16],
     out: &mut [u8],
     position: Position,
 ) -> Position
-    requires { ⌜ EdgesPrepared (now s) layout (now names) (now table) (now ends) (now first) (now links) m × Workspace (layout .edges) (now queue) (now parents) ⌝ }
-    requires { ⌜ LayoutOf (now s) layout (now places) × (subject .number < definitionLimit) ⌝ }
-    requires { ⌜ (1025 ≤ length (now list)) × ArrayAt 24 (now s) (subject .at) jagged × Room position (violationsOf (now s) subject) ⌝ }
+    requires { ⌜ EdgesPrepared (now s) layout (now edges) × (7 * layout .edges + 5 ≤ length (now work)) ⌝ }
+    requires { ⌜ LayoutOf (now s) layout (now places) × (subject .number < definitionLimit) × Noted (now s) (now places) (layout .definitions) ⌝ }
+    requires { ⌜ ArrayAt 24 (now s) (subject .at) (getD (now s) (subject .at + 10) 0) × Room position (violationsOf (now s) subject) ⌝ }
     requires { ⌜ Acyclic (now s) × Kept (now s) false (now kept) × Kept (now s) true (now nested) ⌝ }
     ensures { λ r. ⌜ Wrote (violationsOf (now (s .entry)) subject) (now (out .entry)) position (now (out .exit)) r × Kept (now (s .entry)) false (now (kept .exit)) × Kept (now (s .entry)) true (now (nested .exit)) ⌝ }
 {
-    let start = subject.at + 11;
     let i = subject.number;
     let name = subject.name;
+    let at = subject.at;
+    let list = 6 * layout.edges + 1;
+    let start = at + 11;
     let step = bundle::expr_at(s, start, bundle::DEPTH_INSIDE);
     match step {
         Step::Next(element) => {
@@ -110,30 +93,25 @@ pub fn validate_array_size_constraints(
                 kept,
                 nested,
                 name,
-                jagged,
+                s[at + 10],
                 element,
-                list,
+                &mut work[list..],
             );
-            let next = validate::put_check(s, out, position, i, name, check, list);
+            let next = validate::put_check(s, out, position, i, name, check, &work[list..]);
+            let references = References {
+                tag: false,
+                at: start,
+                end: element,
+            };
             validate::validate_references(
                 s,
                 places,
                 layout,
                 kept,
                 subject,
-                false,
-                start,
-                element,
-                names,
-                table,
-                ends,
-                first,
-                links,
-                m,
-                queue,
-                parents,
-                marks,
-                list,
+                references,
+                edges,
+                work,
                 out,
                 next,
             )
@@ -147,30 +125,30 @@ pub fn validate_struct_field_constraints(
     s: &[u8],
     places: &[u16],
     layout: Layout,
-    kept: &mut [u8; bundle::DEFINITIONS],
     subject: Subject,
     count: usize,
     list: &mut [u16],
     out: &mut [u8],
     position: Position,
 ) -> Position
-    requires { ⌜ LayoutOf (now s) layout (now places) × Acyclic (now s) × Kept (now s) false (now kept) × (subject .number < definitionLimit) ⌝ }
-    requires { ⌜ (1025 ≤ length (now list)) × StructAt 24 (now s) (subject .at) count × Room position (violationsOf (now s) subject) ⌝ }
-    ensures { λ r. ⌜ Wrote (violationsOf (now (s .entry)) subject) (now (out .entry)) position (now (out .exit)) r × Kept (now (s .entry)) false (now (kept .exit)) ⌝ }
+    requires { ⌜ LayoutOf (now s) layout (now places) × (subject .number < definitionLimit) × Noted (now s) (now places) (layout .definitions) ⌝ }
+    requires { ⌜ (3 ≤ length (now list)) × StructAt 24 (now s) (subject .at) count × Room position (violationsOf (now s) subject) ⌝ }
+    ensures { λ r. ⌜ Wrote (violationsOf (now (s .entry)) subject) (now (out .entry)) position (now (out .exit)) r ⌝ }
 {
     let i = subject.number;
     let name = subject.name;
     let form = bundle::form_of(0x50);
+    let mut seen = [0u16; bundle::DEFINITIONS];
     let mut next = subject.at + 12;
     let mut left = count;
     let mut reached = position;
     while 0 < left {
         let field = fields::field_at(s, next, bundle::DEPTH_INSIDE, form);
-        let check = checks::check_field_layout_dependency(
+        let check = forward::check_field_layout_dependency(
             s,
             places,
             layout,
-            kept,
+            &mut seen,
             name,
             count - left,
             field,

@@ -1,23 +1,27 @@
 -- The fields of each kind, as the code finds them.
 use Prim.Native.Nat.{ℕ, _<_}
 use mathlib.Core.Path.{_≡_, refl}
+use mathlib.Core.Bool.{Bool, true, cond}
 use mathlib.Core.List.{[], _∷_}
-use lib.Dec.{T, eqb→eq}
+use lib.Dec.{T, eqb, eqb→eq}
 use types.Run.{OneOf, miss}
 use denote.Enum.Declared.{tagOf}
 use borrow.Author.Tests.{ne-eqb}
 use Rattle.meaning.specs.Kinds as kinds
 use Rattle.meaning.specs.Kinds.{lookup, formOf}
-use Rattle.meaning.specs.Writing.{typeFields, groupFields, named, numeric, recordFields}
+use Rattle.meaning.specs.Writing.{typeFields, groupFields}
 use Rattle.meaning.proofs.ExprSpans.{all-at}
 use Rattle.bundle.specs.declared.TypeForm.{TypeForm}
 use Rattle.bundle.specs.declared.TypeForm.the-variants.{Primitive, TypeRef, Struct, Union, Enum, Array, SizeUnion}
+use Rattle.bundle.specs.declared.RecordForm.{RecordForm}
+use Rattle.bundle.specs.declared.RecordForm.the-variants.{Header, Definition, Edge}
 use Rattle.bundle.specs.declared.Form.{Form}
+use Rattle.bundle.specs.declared.Form.the-variants.{OfRecord}
 use Rattle.bundle.specs.View.{typeFormMeant, formMeant}
 use Rattle.bundle.proofs.TypeForm.{the-type}
 use Rattle.writer.specs.declared.Part.{Part}
 use Rattle.writer.specs.declared.Shaped.the-variants.{Body}
-use Rattle.writer.specs.Shapes.{oneOf, sound}
+use Rattle.writer.specs.Shapes.{recordKind, oneOf, sound}
 
 -- bodies of equal parts
 pub bodies : {a b c d e f g h : Part} → a ≡ e → b ≡ f → c ≡ g → d ≡ h
@@ -44,6 +48,21 @@ group-fields Enum o = refl
 group-fields Array o = absurd (miss (2 ∷ 3 ∷ 4 ∷ 6 ∷ []) 5 tt o)
 group-fields SizeUnion o = refl
 
--- a kind that is left is an edge's
-pub edge-fields : (k : ℕ) → (k ≡ 0x60 → ⊥) → (k ≡ 0x61 → ⊥) → recordFields k ≡ named ∷ named ∷ numeric 1 3 4 ∷ []
-edge-fields k x y = rw (ne-eqb k 0x60 x, ne-eqb k 0x61 y)
+-- what the kind of a header, definition or edge tells of it
+abbrev told : ℕ → kinds.Form → Bool
+told k (kinds.OfExpr f) = true
+told k (kinds.OfType f) = true
+told k (kinds.OfMember w) = true
+told k (kinds.OfRecord before names behind) = eqb k (cond (eqb before 4) 0x60 (cond (eqb names 1) 0x61 0x62))
+told k kinds.Unknown = true
+
+is-told : (k : ℕ) (f g : Form) → k < 256 → formMeant f ≡ formOf k → f ≡ g → T (told k (formMeant g))
+unfolding lookup
+is-told k f g h e p = rw (← p, e) (all-at (λ k. told k (formOf k)) 256 k tt h)
+
+-- a kind byte that is found to be a header's, a definition's or an edge's
+pub record-kind : (k : ℕ) (f : Form) (g : RecordForm) → k < 256 → formMeant f ≡ formOf k → f ≡ OfRecord g → k ≡ recordKind g
+unfolding formMeant
+record-kind k f Header h e p = eqb→eq k 0x60 (is-told k f (OfRecord Header) h e p)
+record-kind k f Definition h e p = eqb→eq k 0x61 (is-told k f (OfRecord Definition) h e p)
+record-kind k f Edge h e p = eqb→eq k 0x62 (is-told k f (OfRecord Edge) h e p)

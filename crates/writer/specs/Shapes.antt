@@ -7,6 +7,8 @@ use lib.Dec.{eqb}
 use Rattle.meaning.specs.Kinds.{Literal, FieldRef, Sizeof, Alignof, Binary, Unary}
 use Rattle.meaning.specs.Kinds.{Form, OfExpr, OfType, OfMember, OfRecord, Unknown}
 use Rattle.meaning.specs.Writing.{Field, numeric, named, most, fault}
+use Rattle.bundle.specs.declared.RecordForm.{RecordForm}
+use Rattle.bundle.specs.declared.RecordForm.the-variants.{Header, Definition, Edge}
 use Rattle.writer.specs.declared.Part.{Part}
 use Rattle.writer.specs.declared.Shape.{Shape}
 use Rattle.writer.specs.declared.Shaped.{Shaped}
@@ -60,6 +62,12 @@ shapeFields s = fieldOf (s .first) ∷ fieldOf (s .second) ∷ fieldOf (s .third
 -- the bytes of a record of this shape
 abbrev pub sizeOf : Shape → ℕ
 sizeOf s = 1 + s .first .width + s .second .width + s .third .width + s .fourth .width
+
+-- the kind of a header, definition and edge
+abbrev pub recordKind : RecordForm → ℕ
+recordKind Header = 0x60
+recordKind Definition = 0x61
+recordKind Edge = 0x62
 
 -- n is one of these four
 abbrev pub oneOf : ℕ → ℕ → ℕ → ℕ → ℕ → Bool

@@ -2,6 +2,7 @@
 use bundle::Answer;
 use bundle::ExprForm;
 use bundle::Form;
+use bundle::RecordForm;
 use bundle::TypeForm;
 ghost use mathlib.Core.Path.{_≡_};
 ghost use mathlib.Core.List.{_∷_, []};
@@ -18,7 +19,7 @@ ghost use Rattle.meaning.specs.Writing.{bodyItems, recordDue, writing};
 ghost use Rattle.bundle.specs.Opened.{answerMeant};
 ghost use Rattle.bundle.specs.View.{exprFormMeant, typeFormMeant};
 ghost use Rattle.writer.specs.declared.Shaped.the-variants.{Body};
-ghost use Rattle.writer.specs.Shapes.{partOf, noPart, shapedOf, isWidth, isCount, sound, shapeFields, sizeOf};
+ghost use Rattle.writer.specs.Shapes.{partOf, noPart, shapedOf, recordKind, isWidth, isCount, sound, shapeFields, sizeOf};
 ghost use Rattle.writer.specs.Places.{CallFrom};
 ghost use Rattle.writer.specs.Stored.{Stored};
 
@@ -153,19 +154,19 @@ fn type_shape(form: TypeForm) -> Shaped
 }
 
 // The body of the header, a definition or an edge.
-fn record_shape(kind: u8) -> Shaped
-    ensures { λ r. ⌜ r ≡ shapedOf (some (recordFields kind)) ⌝ }
+fn record_shape(form: RecordForm) -> Shaped
+    ensures { λ r. ⌜ r ≡ shapedOf (some (recordFields (recordKind form))) ⌝ }
 {
     let none = no_part();
-    match kind {
-        0x60 => body(
+    match form {
+        RecordForm::Header => body(
             number_part(2, DEFINITION_LIMIT, 5),
             number_part(2, EDGE_LIMIT, 5),
             name_part(),
             none,
         ),
-        0x61 => body(name_part(), none, none, none),
-        _ => body(name_part(), name_part(), number_part(1, 3, 4), none),
+        RecordForm::Definition => body(name_part(), none, none, none),
+        RecordForm::Edge => body(name_part(), name_part(), number_part(1, 3, 4), none),
     }
 }
 
@@ -184,7 +185,7 @@ fn shape_of(kind: u8) -> Shaped
                 body(name_part(), whole_part(width), no_part(), no_part())
             }
         }
-        Form::OfRecord(_, _, _) => record_shape(kind),
+        Form::OfRecord(record) => record_shape(record),
         Form::Unknown => Shaped::None,
     }
 }

@@ -3,22 +3,22 @@
 use layout_oracle::bundle::*;
 use layout_oracle::generate::pad;
 
-const PLAIN: Attributes = Attributes {
+pub const PLAIN: Attributes = Attributes {
     packed: false,
     aligned: 0,
 };
-const U8: Type = Type::Primitive(0x30);
-const U16: Type = Type::Primitive(0x31);
+pub const U8: Type = Type::Primitive(0x30);
+pub const U16: Type = Type::Primitive(0x31);
 const U32: Type = Type::Primitive(0x32);
 const F32: Type = Type::Primitive(0x3A);
 const CHAR: Type = Type::Primitive(0x38);
 const ADD: u8 = 0x10;
 
-fn literal(value: u64) -> Expr {
+pub fn literal(value: u64) -> Expr {
     Expr::Literal(4, value)
 }
 
-fn field_of(owner: Name, field: Name) -> Expr {
+pub fn field_of(owner: Name, field: Name) -> Expr {
     Expr::FieldRef(vec![owner, field])
 }
 
@@ -30,12 +30,12 @@ fn member(name: Name, member_type: Type) -> Member {
     }
 }
 
-fn structure(list: Vec<(Name, Type)>) -> Type {
+pub fn structure(list: Vec<(Name, Type)>) -> Type {
     let members = list.into_iter().map(|(name, body)| member(name, body));
     Type::Struct(PLAIN, members.collect())
 }
 
-fn array(size: Expr, element: Type) -> Type {
+pub fn array(size: Expr, element: Type) -> Type {
     Type::Array(PLAIN, false, size, Box::new(element))
 }
 
@@ -189,7 +189,7 @@ fn add_edges(number: Name, edges: &mut Vec<Edge>) {
 /// A worst case of about this many bytes, exactly so for the largest.
 pub type Worst = fn(usize) -> Bundle;
 
-fn size(bundle: &Bundle) -> usize {
+pub fn size(bundle: &Bundle) -> usize {
     encode(bundle).len()
 }
 
@@ -326,7 +326,7 @@ pub fn failing_searches(bytes: usize) -> Bundle {
 }
 
 /// The same over two lines, from one and the other in turn: what one search has
-/// gone through says nothing of the next.
+/// gone through says nothing of the next, where searches go forwards.
 pub fn failing_in_turn(bytes: usize) -> Bundle {
     const APART: Name = 20_000;
     let mut bundle = line(bytes);

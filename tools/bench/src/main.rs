@@ -5,22 +5,28 @@ mod compare;
 mod exchange;
 mod inputs;
 mod measure;
+mod shapes;
 
 use inputs::Worst;
 use layout_oracle::bundle::{encode, Bundle, BYTE_LIMIT};
 use layout_oracle::report::report_bytes;
 use layout_oracle::{original, reader, reference, work};
 use measure::{seconds, shown};
-use std::process::ExitCode;
+use std::io::Write;
+use std::process::{Command, ExitCode};
 
 /// What the program lends for a report.
 const USUAL_BUFFER: usize = 65_536;
-/// Above this bound the original would not finish within minutes.
-const STEP_LIMIT: u64 = 1 << 35;
-/// With `--quick`, cases that take the original some seconds are left out too.
-const QUICK_STEP_LIMIT: u64 = 4_000_000_000;
+/// Up to this bound the original takes some seconds at most. Above it, it runs in a
+/// process of its own, which is ended after so many seconds of processor time; with
+/// `--quick` not at all.
+const STEP_LIMIT: u64 = 4_000_000_000;
+const PATIENCE: u64 = 60;
 
-const WORST: [(&str, Worst); 6] = [
+/// Worst cases, by their names.
+type Row = (&'static str, Worst);
+
+const WORST: [Row; 6] = [
     ("deep nesting", inputs::deep_nesting),
     ("shared definitions, 12 levels", inputs::shared_some),
     ("shared definitions, 150 levels", inputs::shared_much),
@@ -29,20 +35,55 @@ const WORST: [(&str, Worst); 6] = [
     ("searches that fail, in turn", inputs::failing_in_turn),
 ];
 
+/// Bundles in which a check could multiply one count by another.
+const SHAPES: [Row; 21] = [
+    ("a plausible record, 1,200 fields", shapes::plausible),
+    ("800 fields x a missing field", shapes::some_missing),
+    ("fields x a missing field", shapes::missing_field),
+    ("fields x the last field", shapes::last_field),
+    ("fields x references in elements", shapes::in_elements),
+    ("fields x many variants", shapes::many_variants),
+    ("fields x deep arrays", shapes::deep_and_wide),
+    ("one tag into one struct", shapes::tag_into_struct),
+    ("one tag into two structs", shapes::two_structs_in_turn),
+    ("one tag, no container", shapes::no_container),
+    ("many enums into one struct", shapes::many_enums),
+    ("many structs to one array", shapes::many_structs),
+    ("structs of one name to one array", shapes::one_name),
+    (
+        "structs of one name, many fields",
+        shapes::one_name_many_fields,
+    ),
+    ("250 levels, each held twice", shapes::levels_held_twice),
+    ("wide searches from two names", shapes::wide_searches),
+    ("a search for each of 250 arrays", shapes::many_searches),
+    (
+        "250 arrays at the end of a line",
+        shapes::searches_over_a_line,
+    ),
+    ("names of few low bytes", shapes::names_alike),
+    ("fields of few low bytes", shapes::fields_alike),
+    ("13,000 names of few low bytes", shapes::all_names_alike),
+];
+
 const USAGE: &str = "usage:
   bench [--quick]            times of the library and the original
-  bench compare SEED COUNT   the library's answers against the oracle's";
+  bench compare SEED COUNT   the library's answers against the oracle's
+  bench rows FOLDER          the bundle of each case as a file, for the programs in c/
+  bench original NUMBER      the original's time and report for one case";
 
 fn main() -> ExitCode {
     let words: Vec<String> = std::env::args().skip(1).collect();
     let words: Vec<&str> = words.iter().map(String::as_str).collect();
     let done = match words[..] {
-        [] => Some(times(STEP_LIMIT)),
-        ["--quick"] => Some(times(QUICK_STEP_LIMIT)),
+        [] => Some(times(false)),
+        ["--quick"] => Some(times(true)),
         ["compare", seed, count] => {
             let numbers = seed.parse().ok().zip(count.parse().ok());
             numbers.map(|(seed, count)| compare::compare(seed, count))
         }
+        ["rows", folder] => Some(write_rows(folder)),
+        ["original", number] => number.parse().ok().map(original_alone),
         _ => None,
     };
     match done {
@@ -56,9 +97,9 @@ fn main() -> ExitCode {
 }
 
 /// Prints all tables; false where the answers differ.
-fn times(limit: u64) -> bool {
+fn times(quick: bool) -> bool {
     print_buffers();
-    let same = print_reports(limit);
+    let same = print_reports(quick);
     print_growth();
     print_other_calls();
     same
@@ -73,10 +114,23 @@ fn cases() -> Vec<(&'static str, Bundle)> {
         ("140 definitions, 600 edges, passes", inputs::realistic(0)),
         ("the same with ten violations", ten),
     ];
-    for (name, worst) in WORST {
+    for (name, worst) in WORST.into_iter().chain(SHAPES) {
         list.push((name, worst(BYTE_LIMIT)));
     }
     list
+}
+
+/// Writes each case's bundle as FOLDER/NUMBER CASE; false where a file could not be written.
+fn write_rows(folder: &str) -> bool {
+    let write = |(number, (name, bundle)): (usize, (&str, Bundle))| {
+        let path = format!("{folder}/{number:02} {}", name.replace('/', " "));
+        std::fs::write(&path, encode(&bundle)).map_err(|error| eprintln!("{path}: {error}"))
+    };
+    cases()
+        .into_iter()
+        .enumerate()
+        .map(write)
+        .all(|written| written.is_ok())
 }
 
 /// A buffer long enough for the bundle's report.
@@ -102,17 +156,49 @@ fn library_time(bytes: &[u8]) -> f64 {
     seconds(|| layout::report(bytes, &mut buffer))
 }
 
-/// The original's report and its time, where it can finish.
-fn original_time(bundle: &Bundle, limit: u64) -> Option<(Vec<u8>, f64)> {
-    if work::steps(bundle) > limit {
-        return None;
+/// The original's report and its time, or why there are none.
+type Original = Result<(Vec<u8>, f64), &'static str>;
+
+fn original_time(number: usize, bundle: &Bundle, quick: bool) -> Original {
+    if work::steps(bundle) <= STEP_LIMIT {
+        return Ok(original_run(bundle));
     }
-    let mut found = Vec::new();
-    let time = seconds(|| found = original::violations(bundle));
-    Some((report_bytes(&found), time))
+    match quick {
+        true => Err("left out"),
+        false => original_apart(number).ok_or("over 60 s"),
+    }
 }
 
-fn print_reports(limit: u64) -> bool {
+fn original_run(bundle: &Bundle) -> (Vec<u8>, f64) {
+    let mut found = Vec::new();
+    let time = seconds(|| found = original::violations(bundle));
+    (report_bytes(&found), time)
+}
+
+/// The original in a process of its own; none if it does not finish in time.
+fn original_apart(number: usize) -> Option<(Vec<u8>, f64)> {
+    let program = std::env::current_exe().expect("the program's path");
+    let found = Command::new(program)
+        .args(["original", &number.to_string()])
+        .output()
+        .expect("a process");
+    let (time, report) = found.stdout.split_first_chunk()?;
+    Some((report.to_vec(), f64::from_le_bytes(*time)))
+}
+
+/// Writes the original's time for a case, eight bytes, and its report.
+fn original_alone(number: usize) -> bool {
+    let Some((_, bundle)) = cases().into_iter().nth(number) else {
+        return false;
+    };
+    measure::limit_to(PATIENCE);
+    let (report, time) = original_run(&bundle);
+    let mut out = std::io::stdout();
+    let written = out.write_all(&time.to_le_bytes());
+    written.and_then(|_| out.write_all(&report)).is_ok()
+}
+
+fn print_reports(quick: bool) -> bool {
     println!("Report, in processor time of one call. `original` starts from the bundle's tree and");
     println!("ends with the violations; `with bytes` adds reading the bytes and copying the");
     println!("report, which the library's time has in it. A ratio over 1 is in favour of the");
@@ -130,8 +216,8 @@ fn print_reports(limit: u64) -> bool {
     ];
     println!("{:<36}{}", "case", row(&heads.map(str::to_string)));
     let mut all_same = true;
-    for (name, bundle) in cases() {
-        let (cells, same) = report_cells(&bundle, limit);
+    for (number, (name, bundle)) in cases().into_iter().enumerate() {
+        let (cells, same) = report_cells(number, &bundle, quick);
         println!("{name:<36}{}", row(&cells));
         all_same &= same;
     }
@@ -148,14 +234,17 @@ fn ratio(theirs: f64, own: f64) -> String {
 }
 
 /// The cells of one case, and whether the two reports are the same.
-fn report_cells(bundle: &Bundle, limit: u64) -> (Vec<String>, bool) {
+fn report_cells(number: usize, bundle: &Bundle, quick: bool) -> (Vec<String>, bool) {
     let bytes = encode(bundle);
     let report = layout::report_vec(&bytes).expect("a sound bundle");
     let own = library_time(&bytes);
     let mut cells = vec![bytes.len().to_string(), report.len().to_string()];
-    let Some((expected, time)) = original_time(bundle, limit) else {
-        cells.extend(["-".to_string(), shown(own), "left out".to_string()]);
-        return (cells, true);
+    let (expected, time) = match original_time(number, bundle, quick) {
+        Ok(found) => found,
+        Err(reason) => {
+            cells.extend(["-".to_string(), shown(own), reason.to_string()]);
+            return (cells, true);
+        }
     };
     let around = seconds(|| reader::read(&bytes)) + seconds(|| expected.to_vec());
     let same = report == expected;
@@ -167,7 +256,7 @@ fn report_cells(bundle: &Bundle, limit: u64) -> (Vec<String>, bool) {
 
 fn print_growth() {
     println!("Growth of the library's report from an eighth of a worst case to the whole. Time in");
-    println!("step with the bytes gives 8 in the column `time`. The last three cases have more");
+    println!("step with the bytes gives 8 in the column `time`. Cases with searches have more");
     println!("references and more edges at once: searches that go over all edges one by one give");
     println!("64, and so does the report of the long chains, whose growth is the last column.");
     println!();
@@ -178,7 +267,7 @@ fn print_growth() {
         .collect();
     heads.extend(["time".to_string(), "report".to_string()]);
     println!("{:<36}{}", "case", row(&heads));
-    for (name, worst) in WORST {
+    for (name, worst) in WORST.into_iter().chain(SHAPES) {
         let bundles = parts.map(|part| encode(&worst(BYTE_LIMIT / part)));
         let times = bundles.each_ref().map(|bytes| library_time(bytes));
         let length = |bytes: &[u8]| layout::report_vec(bytes).map_or(0, |found| found.len()) as f64;

@@ -21,8 +21,19 @@ struct Timespec {
 /// The thread's own processor time, on Linux.
 const THREAD_CLOCK: i32 = 3;
 
+/// The processor time of a process, as something that is limited.
+const PROCESS_TIME: i32 = 0;
+
 extern "C" {
     fn clock_gettime(clock: i32, out: *mut Timespec) -> i32;
+    fn setrlimit(resource: i32, limits: *const [u64; 2]) -> i32;
+}
+
+/// Ends this process when it has had so many seconds of processor time from its start.
+pub fn limit_to(seconds: u64) {
+    // Two numbers, the limit now and the most that it may be set to.
+    let failed = unsafe { setrlimit(PROCESS_TIME, &[seconds, seconds]) };
+    assert_eq!(failed, 0, "no limit");
 }
 
 fn now() -> f64 {

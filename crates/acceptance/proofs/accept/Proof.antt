@@ -1,35 +1,30 @@
+use borrow.Author.Needs.{needs}
 use Rattle.acceptance.proofs.accept.Statement.{statement}
 use Rattle.acceptance.proofs.accept.Tie as tie
-use borrow.Author.Needs.{needs}
 use Prim.Native.Nat.{ℕ}
 use native.Mathlib.Omega.{arith}
 use lib.ListN.{length-replicate}
+use Rattle.bundle.proofs.AnswerLaws.{accepts, turns-down}
 
-slice-aggregate-accept-with : tie.Need-slice-aggregate-accept-with
-slice-aggregate-accept-with c = search needs
+slice-aggregate-open : tie.Need-slice-aggregate-open
+slice-aggregate-open c = search needs
 
-accept-with-requires : tie.Need-accept-with-requires
-accept-with-requires c κs = omega (arith, length-replicate {A = ℕ} 257 0)
+open-requires : tie.Need-open-requires
+open-requires c κs = omega (arith, length-replicate {A = ℕ} 2050 0)
+
+enum-told : tie.Need-enum-told
+enum-told c = search needs
+
+enum-known-opening : tie.Need-enum-known-opening
+enum-known-opening c = search needs
 
 returns : tie.Need-returns
-returns c = c .before .accept-with .ensures
-
-slice-aggregate-accept-with-2 : tie.Need-slice-aggregate-accept-with-2
-slice-aggregate-accept-with-2 c = search needs
-
-accept-with-requires-2 : tie.Need-accept-with-requires-2
-accept-with-requires-2 c κs = omega (arith, length-replicate {A = ℕ} 65793 0)
+returns c = accepts _ _ _ _ (c .before .before .before .«open» .ensures) (c .enum-told .given .1)
 
 returns-2 : tie.Need-returns-2
-returns-2 c = c .before .accept-with2 .ensures
+returns-2 c = turns-down _ _ _ _ (c .before .before .before .before .«open» .ensures) (c .before .opening .given .1)
 
 pub accept-spec : {M : Type 1} → statement M
 accept-spec =
     tie.close
-    (tie.spec
-    slice-aggregate-accept-with
-    accept-with-requires
-    returns
-    slice-aggregate-accept-with-2
-    accept-with-requires-2
-    returns-2)
+    (tie.spec slice-aggregate-open open-requires enum-told enum-known-opening returns returns-2)

@@ -5,7 +5,7 @@ use borrow.Author.Needs.{needs}
 use native.Mathlib.Omega.{arith}
 use Prim.Native.Nat.{_-_}
 use Rattle.bundle.specs.Definitions.{bundleOf}
-use Rattle.bundle.proofs.CircleLaws.{loop-circles, decided-true, decided-loop, Settled, settled-start, settled-marks, settled-next, settled-end}
+use Rattle.acceptance.proofs.CircleLaws.{loop-circles, decided-true, decided-loop, Settled, settled-start, settled-marks, settled-next, settled-end}
 
 abbrev Inv-loop : tie.InvT-loop
 Inv-loop s places count marks₀ i₀ marks i = Settled (bundleOf s) marks i

@@ -6,7 +6,7 @@ use mathlib.Core.Path.{refl, sym, _∙_}
 use Rattle.bundle.proofs.LayoutLaws.{header-read, definitions-refused, rest-not, definitions-placed, layout-of}
 
 definitions-at-requires : tie.Need-definitions-at-requires
-definitions-at-requires c κs = (c .before .before .before .pre .0, header-read _ _ _ _ (c .before .before .before .pre .2) .definitions, c .before .before .before .pre .1, omega (arith, header-read _ _ _ _ (c .before .before .before .pre .2) .next, header-read _ _ _ _ (c .before .before .before .pre .2) .there))
+definitions-at-requires c κs = (c .before .before .before .pre .0, header-read _ _ _ _ (c .before .before .before .pre .2) .definitions, omega (arith, c .before .before .before .pre .1), omega (arith, header-read _ _ _ _ (c .before .before .before .pre .2) .next, header-read _ _ _ _ (c .before .before .before .pre .2) .there))
 
 enum-known-step : tie.Need-enum-known-step
 enum-known-step c = search needs

@@ -1,48 +1,59 @@
-use Prim.Native.Nat.{ℕ, _-_, _≤_}
-use mathlib.Core.Path.{_≡_, refl, ap, _∙_}
-use mathlib.Core.List.{List, _++_, append-nil}
-use lib.ListN.{length, length-set, drop-of-length-le, drop, set, replicate}
-use borrow.Author.Fill.{fill-more}
-use native.Mathlib.Omega.{arith}
-use borrow.Author.Needs.{needs}
+-- `chain::clear` meets its contract. The invariant: no edge leads to a number below x, and all else is as it was.
 use Rattle.chain.proofs.clear.Statement.{statement}
 use Rattle.chain.proofs.clear.Tie as tie
+use borrow.Author.Needs.{needs}
+use Prim.Native.Nat.{_-_, _*_, _≤_}
+use native.Mathlib.Omega.{arith}
+use Rattle.chain.specs.Index.{Cleared, Same}
+use Rattle.chain.proofs.Links.{same-refl, same-first, cleared-more}
 
 abbrev Inv-loop : tie.InvT-loop
-Inv-loop places₀ value i₀ places i = (length places ≡ length places₀) × (i ≤ length places₀) × (places ≡ replicate i value ++ drop i places₀)
+Inv-loop edges₀ count x₀ edges x = (x ≤ 2 * count) × Cleared count x edges × Same count edges₀ edges
 
 abbrev μ-loop : tie.MeasureT-loop
-μ-loop places₀ value i₀ places i = length places₀ - i
+μ-loop edges₀ count x₀ edges x = 2 * count - x
 
 loop-holds : tie.Need-loop-holds Inv-loop μ-loop
-loop-holds c = (refl, omega arith, refl)
+loop-holds c = (omega arith, λ x l. absurd (omega arith), same-refl _ _)
 
-mul-places : tie.Need-mul-places Inv-loop μ-loop
-mul-places c = search needs
+mul-loop : tie.Need-mul-loop Inv-loop μ-loop
+mul-loop c = search needs
 
-slice-write-places : tie.Need-slice-write-places Inv-loop μ-loop
-slice-write-places c = search needs
+cast-edges : tie.Need-cast-edges Inv-loop μ-loop
+cast-edges c = search needs
 
-add-i : tie.Need-add-i Inv-loop μ-loop
-add-i c = search needs
+mul-edges : tie.Need-mul-edges Inv-loop μ-loop
+mul-edges c = search needs
+
+add-edges : tie.Need-add-edges Inv-loop μ-loop
+add-edges c = search needs
+
+add-edges-2 : tie.Need-add-edges-2 Inv-loop μ-loop
+add-edges-2 c = search needs
+
+mul-edges-2 : tie.Need-mul-edges-2 Inv-loop μ-loop
+mul-edges-2 c = search needs
+
+slice-write-edges : tie.Need-slice-write-edges Inv-loop μ-loop
+slice-write-edges c = omega (arith, c .before .loop .inv .2 .size)
+
+add-x : tie.Need-add-x Inv-loop μ-loop
+add-x c = search needs
 
 loop-less : tie.Need-loop-less Inv-loop μ-loop
 loop-less c = search needs
 
 loop-again : tie.Need-loop-again Inv-loop μ-loop
 loop-again c = let l = c .before .loop in
-    let a = c .before .before .args in
-    (length-set (l .places) (l .i) (a .value) ∙ l .inv .0, omega arith, ap (λ (x : List ℕ). set x (l .i) (a .value)) (l .inv .2) ∙ fill-more (l .i) (a .value) (a .places .now) (omega arith))
+    let t = c .loop-test .taken in
+    let a = c .before .before in
+    (omega arith, cleared-more (l .edges) t (omega (arith, l .inv .2 .size, a .pre .0)) (l .inv .1), same-first (l .x) _ t (l .inv .2))
 
 same-length : tie.Need-same-length Inv-loop μ-loop
-same-length c = search needs
+same-length c = c .before .loop .inv .2 .size
 
 returns : tie.Need-returns Inv-loop μ-loop
-returns c = let l = c .before .loop in
-    let a = c .before .before .args in
-    let all : length (a .places .now) ≡ l .i = omega arith in
-    let end : length (a .places .now) ≤ l .i = omega arith in
-    l .inv .2 ∙ rw (all, drop-of-length-le (a .places .now) end) (append-nil _)
+returns c = let l = c .before .loop in (λ x k. l .inv .1 x (omega arith), l .inv .2)
 
 pub clear-spec : {M : Type 1} → statement M
 clear-spec =
@@ -51,9 +62,14 @@ clear-spec =
     Inv-loop
     μ-loop
     loop-holds
-    mul-places
-    slice-write-places
-    add-i
+    mul-loop
+    cast-edges
+    mul-edges
+    add-edges
+    add-edges-2
+    mul-edges-2
+    slice-write-edges
+    add-x
     loop-less
     loop-again
     same-length

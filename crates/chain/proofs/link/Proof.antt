@@ -1,91 +1,99 @@
 -- `chain::link` meets its contract. The invariant: the edges from e on are linked.
-use Prim.Native.Nat.{ℕ, _-_, _*_, _≤_}
-use mathlib.Core.Path.{_≡_, refl, subst}
-use lib.ListN.{length, length-set, getD}
-use Rattle.chain.specs.Index.{numbered, Indexed}
-use Rattle.chain.proofs.Links.{index-more}
-use native.Mathlib.Omega.{arith}
-use borrow.Author.Needs.{needs}
 use Rattle.chain.proofs.link.Statement.{statement}
 use Rattle.chain.proofs.link.Tie as tie
+use borrow.Author.Needs.{needs}
+use Prim.Native.Nat.{ℕ, _+_, _-_, _*_, _≤_, _<_}
+use mathlib.Core.Path.{refl, sym, subst}
+use native.Mathlib.Omega.{arith}
+use lib.ListN.{length-set}
+use Rattle.chain.specs.Index.{toIn, firstIn, Linking}
+use Rattle.chain.proofs.Links.{linking-none, linking-more}
 
 abbrev Inv-loop : tie.InvT-loop
-Inv-loop ends count first₀ next₀ e₀ first next e = (e ≤ count) × Indexed (numbered ends count) e first next × (length first ≡ length first₀) × (length next ≡ length next₀)
+Inv-loop edges₀ count e₀ edges e = (e ≤ count) × Linking count edges₀ e edges
 
 abbrev μ-loop : tie.MeasureT-loop
-μ-loop ends count first₀ next₀ e₀ first next e = e
+μ-loop edges₀ count e₀ edges e = e
+
+-- where edge e - 1 leads to, and that there is room for what is said of it
+to-fits : (c : tie.In-loop Inv-loop μ-loop) → toIn (c .before .loop .edges) (c .before .loop .e - 1) < 2 * c .before .before .args .count
+to-fits c =
+    let l = c .before .loop in
+    let a = c .before .before in
+    subst (λ (x : ℕ). x < 2 * a .args .count) (sym (l .inv .1 .same .tos (l .e - 1) (omega arith))) (a .pre .0 .below (l .e - 1) (omega arith))
 
 loop-holds : tie.Need-loop-holds Inv-loop μ-loop
-loop-holds c = search needs
+loop-holds c = (omega arith, linking-none (c .pre .1))
 
 sub-e : tie.Need-sub-e Inv-loop μ-loop
 sub-e c = search needs
 
-mul-from : tie.Need-mul-from Inv-loop μ-loop
-mul-from c = search needs
+mul-to : tie.Need-mul-to Inv-loop μ-loop
+mul-to c = search needs
 
-mul-from-2 : tie.Need-mul-from-2 Inv-loop μ-loop
-mul-from-2 c = search needs
+add-to : tie.Need-add-to Inv-loop μ-loop
+add-to c = search needs
 
-shared-slice-read-from : tie.Need-shared-slice-read-from Inv-loop μ-loop
-shared-slice-read-from c = search needs
+mul-to-2 : tie.Need-mul-to-2 Inv-loop μ-loop
+mul-to-2 c = search needs
 
-cast-from : tie.Need-cast-from Inv-loop μ-loop
-cast-from c = let a = c .before .before .before in
-    let l = c .before .before .loop in
-    omega (arith, a .pre .1 .0 (2 * (l .e - 1)) (omega arith), c .shared-slice-known .given (2 * (l .e - 1)))
+slice-read-to : tie.Need-slice-read-to Inv-loop μ-loop
+slice-read-to c = omega (arith, c .before .before .loop .inv .1 .same .size, c .before .before .before .pre .0 .room)
 
-mul-next : tie.Need-mul-next Inv-loop μ-loop
-mul-next c = let a = c .before .before .before in
-    let l = c .before .before .loop in
-    omega (arith, a .pre .1 .0 (2 * (l .e - 1)) (omega arith), c .shared-slice-known .given (2 * (l .e - 1)))
-
-slice-read-next : tie.Need-slice-read-next Inv-loop μ-loop
-slice-read-next c = let a = c .before .before .before .before in
-    let l = c .before .before .before .loop in
-    omega (arith, a .pre .1 .0 (2 * (l .e - 1)) (omega arith))
-
-mul-next-2 : tie.Need-mul-next-2 Inv-loop μ-loop
-mul-next-2 c = search needs
-
-slice-write-next : tie.Need-slice-write-next Inv-loop μ-loop
-slice-write-next c = search needs
-
-cast-first : tie.Need-cast-first Inv-loop μ-loop
-cast-first c = search needs
+cast-to : tie.Need-cast-to Inv-loop μ-loop
+cast-to c = omega (arith, to-fits (c .before))
 
 mul-first : tie.Need-mul-first Inv-loop μ-loop
-mul-first c = let a = c .before .before .before .before in
-    let l = c .before .before .before .loop in
-    omega (arith, a .pre .1 .0 (2 * (l .e - 1)) (omega arith))
+mul-first c = omega (arith, to-fits (c .before))
 
-slice-write-first : tie.Need-slice-write-first Inv-loop μ-loop
-slice-write-first c = let a = c .before .before .before .before in
-    let l = c .before .before .before .loop in
-    omega (arith, a .pre .1 .0 (2 * (l .e - 1)) (omega arith))
+add-first : tie.Need-add-first Inv-loop μ-loop
+add-first c = omega (arith, to-fits (c .before))
+
+add-first-2 : tie.Need-add-first-2 Inv-loop μ-loop
+add-first-2 c = omega (arith, to-fits (c .before))
+
+mul-edges : tie.Need-mul-edges Inv-loop μ-loop
+mul-edges c = omega (arith, to-fits (c .before))
+
+slice-read-edges : tie.Need-slice-read-edges Inv-loop μ-loop
+slice-read-edges c = omega (arith, to-fits (c .before .before), c .before .before .before .loop .inv .1 .same .size, c .before .before .before .before .pre .0 .room)
+
+mul-edges-2 : tie.Need-mul-edges-2 Inv-loop μ-loop
+mul-edges-2 c = search needs
+
+add-edges : tie.Need-add-edges Inv-loop μ-loop
+add-edges c = search needs
+
+mul-edges-3 : tie.Need-mul-edges-3 Inv-loop μ-loop
+mul-edges-3 c = search needs
+
+slice-write-edges : tie.Need-slice-write-edges Inv-loop μ-loop
+slice-write-edges c = omega (arith, c .before .before .before .loop .inv .1 .same .size, c .before .before .before .before .pre .0 .room)
+
+cast-edges : tie.Need-cast-edges Inv-loop μ-loop
+cast-edges c = search needs
+
+mul-edges-4 : tie.Need-mul-edges-4 Inv-loop μ-loop
+mul-edges-4 c = omega (arith, to-fits (c .before .before))
+
+slice-write-edges-2 : tie.Need-slice-write-edges-2 Inv-loop μ-loop
+slice-write-edges-2 c = let l = c .before .before .before .loop in omega (arith, to-fits (c .before .before), c .before .before .before .loop .inv .1 .same .size, c .before .before .before .before .pre .0 .room, length-set (l .edges) (3 * (l .e - 1) + 3) (firstIn (c .before .before .before .before .args .count) (l .edges) (toIn (l .edges) (l .e - 1))))
 
 loop-less : tie.Need-loop-less Inv-loop μ-loop
 loop-less c = search needs
 
 loop-again : tie.Need-loop-again Inv-loop μ-loop
-loop-again c = let a = c .before .before .before .before in
-    let l = c .before .before .before .loop in
-    let below = a .pre .1 .0 (2 * (l .e - 1)) (omega arith) in (
-      omega arith,
-      index-more (l .e - 1) (getD (a .args .ends .now) (2 * (l .e - 1)) 0) (omega arith) refl (omega arith) (omega arith) (l .inv .1),
-      simp length-set (l .inv .2),
-      simp length-set (l .inv .3),
-    )
+loop-again c = let l = c .before .before .before .loop in
+    let a = c .before .before .before .before in
+    (omega arith, linking-more (a .pre .0) (omega arith) (l .inv .0) refl (l .inv .1))
 
 same-length : tie.Need-same-length Inv-loop μ-loop
-same-length c = search needs
-
-same-length-2 : tie.Need-same-length-2 Inv-loop μ-loop
-same-length-2 c = search needs
+same-length c = c .before .loop .inv .1 .same .size
 
 returns : tie.Need-returns Inv-loop μ-loop
-returns c = let a = c .before .before .args in
-    subst (λ (x : ℕ). Indexed (numbered (a .ends .now) (a .count)) x (c .before .loop .first) (c .before .loop .next)) (c .loop-test .left) (c .before .loop .inv .1)
+returns c = let l = c .before .loop in
+    let a = c .before .before .args in
+    subst (λ (x : ℕ). Linking (a .count) (a .edges .now) x (l .edges)) (c .loop-test .left) (l .inv .1)
 
 pub link-spec : {M : Type 1} → statement M
 link-spec =
@@ -95,19 +103,24 @@ link-spec =
     μ-loop
     loop-holds
     sub-e
-    mul-from
-    mul-from-2
-    shared-slice-read-from
-    cast-from
-    mul-next
-    slice-read-next
-    mul-next-2
-    slice-write-next
-    cast-first
+    mul-to
+    add-to
+    mul-to-2
+    slice-read-to
+    cast-to
     mul-first
-    slice-write-first
+    add-first
+    add-first-2
+    mul-edges
+    slice-read-edges
+    mul-edges-2
+    add-edges
+    mul-edges-3
+    slice-write-edges
+    cast-edges
+    mul-edges-4
+    slice-write-edges-2
     loop-less
     loop-again
     same-length
-    same-length-2
     returns)

@@ -1,26 +1,32 @@
 -- `chain::number` meets its contract. The invariant: the ends before i are numbered.
+use Rattle.chain.proofs.number.Statement.{statement}
+use Rattle.chain.proofs.number.Tie as tie
+use borrow.Author.Needs.{needs}
 use Prim.Native.Nat.{ℕ, _-_, _*_, _≤_}
 use mathlib.Core.Path.{_≡_, refl, _∙_, subst}
+use native.Mathlib.Omega.{arith}
 use lib.ListN.{length, length-set}
 use Rattle.chain.specs.Index.{Numbering}
 use Rattle.chain.proofs.Numbers.{name-read, numbering-none, numbering-more}
-use native.Mathlib.Omega.{arith}
-use borrow.Author.Needs.{needs}
-use Rattle.chain.proofs.number.Statement.{statement}
-use Rattle.chain.proofs.number.Tie as tie
 
 abbrev Inv-loop : tie.InvT-loop
-Inv-loop bytes at count names₀ table₀ ends₀ m₀ i₀ names table ends m i =
-    (i ≤ 2 * count) × Numbering bytes at i names table ends m
-    × (length names ≡ length names₀)
-    × (length table ≡ length table₀)
-    × (length ends ≡ length ends₀)
+Inv-loop bytes at count edges₀ names m₀ i₀ edges m i = (i ≤ 2 * count) × Numbering bytes at i count edges m × (length edges ≡ length edges₀)
 
 abbrev μ-loop : tie.MeasureT-loop
-μ-loop bytes at count names₀ table₀ ends₀ m₀ i₀ names table ends m i = 2 * count - i
+μ-loop bytes at count edges₀ names m₀ i₀ edges m i = 2 * count - i
+
+mul-names : tie.Need-mul-names Inv-loop μ-loop
+mul-names c = search needs
+
+add-names : tie.Need-add-names Inv-loop μ-loop
+add-names c = search needs
+
+empty-requires : tie.Need-empty-requires Inv-loop μ-loop
+empty-requires c κs = search needs
 
 loop-holds : tie.Need-loop-holds Inv-loop μ-loop
-loop-holds c = (omega arith, numbering-none _ _ _ _ _, refl, refl, refl)
+loop-holds c = let e = c .before .before .empty .ensures in
+    (omega arith, numbering-none _ _ (omega (arith, e .1 .size, c .before .before .before .before .before .before .pre .1)) (e .0), refl)
 
 mul-loop : tie.Need-mul-loop Inv-loop μ-loop
 mul-loop c = search needs
@@ -44,20 +50,29 @@ u16-at-requires : tie.Need-u16-at-requires Inv-loop μ-loop
 u16-at-requires c κs = search needs
 
 enter-requires : tie.Need-enter-requires Inv-loop μ-loop
-enter-requires c κs = let i = c .before .before .before .before .loop .inv in
-    (i .1 .members, (omega (arith, i .1 .few), omega (arith, i .1 .few)))
+enter-requires c κs = let i = c .before .before .before .loop .inv in
+    (i .1 .members, omega (arith, i .1 .few, i .1 .size), omega (arith, i .1 .few))
 
 grow-requires : tie.Need-grow-requires Inv-loop μ-loop
 grow-requires c κs = search needs
 
-cast-ends : tie.Need-cast-ends Inv-loop μ-loop
-cast-ends c = search needs
+cast-edges : tie.Need-cast-edges Inv-loop μ-loop
+cast-edges c = search needs
 
-mul-ends : tie.Need-mul-ends Inv-loop μ-loop
-mul-ends c = search needs
+mul-edges : tie.Need-mul-edges Inv-loop μ-loop
+mul-edges c = search needs
 
-slice-write-ends : tie.Need-slice-write-ends Inv-loop μ-loop
-slice-write-ends c = search needs
+add-edges : tie.Need-add-edges Inv-loop μ-loop
+add-edges c = search needs
+
+add-edges-2 : tie.Need-add-edges-2 Inv-loop μ-loop
+add-edges-2 c = search needs
+
+mul-edges-2 : tie.Need-mul-edges-2 Inv-loop μ-loop
+mul-edges-2 c = search needs
+
+slice-write-edges : tie.Need-slice-write-edges Inv-loop μ-loop
+slice-write-edges c = omega (arith, c .before .before .before .enter .ensures .only .size, c .before .before .before .before .before .before .before .loop .inv .1 .size)
 
 add-i : tie.Need-add-i Inv-loop μ-loop
 add-i c = search needs
@@ -66,29 +81,21 @@ loop-less : tie.Need-loop-less Inv-loop μ-loop
 loop-less c = search needs
 
 loop-again : tie.Need-loop-again Inv-loop μ-loop
-loop-again c = let l = c .before .before .before .before .before .before .before .before .before .before .loop in
-    let f = c .before .before .before .before .before .enter in (
+loop-again c = let l = c .before .before .before .before .before .before .before .loop in
+    let f = c .before .before .before .enter in (
       omega arith,
-      numbering-more (l .inv .1) (omega arith) (c .before .before .before .before .before .before .before .before .u16-at .ensures ∙ name-read _ _) (f .ensures) (c .grow .ensures),
-      f .kept .0 ∙ l .inv .2,
-      f .kept .1 .0 ∙ l .inv .3,
-      simp length-set (l .inv .4),
+      numbering-more (l .inv .1) (c .before .before .before .before .before .before .loop-test .taken) (c .before .before .before .before .before .u16-at .ensures ∙ name-read _ _) (f .ensures) (c .grow .ensures),
+      simp length-set (f .ensures .only .size ∙ l .inv .2),
     )
 
 same-length : tie.Need-same-length Inv-loop μ-loop
 same-length c = search needs
 
-same-length-2 : tie.Need-same-length-2 Inv-loop μ-loop
-same-length-2 c = search needs
-
-same-length-3 : tie.Need-same-length-3 Inv-loop μ-loop
-same-length-3 c = search needs
-
 returns : tie.Need-returns Inv-loop μ-loop
-returns c = let a = c .before .before .before .before .before .before .args in
+returns c = let a = c .before .before .before .before .before .before .before .before .args in
     let l = c .before .loop in
     let end : l .i ≡ 2 * a .count = omega arith in
-    subst (λ (k : ℕ). Numbering (a .bytes .now) (a .at) k (l .names) (l .table) (l .ends) (l .m)) end (l .inv .1)
+    subst (λ (k : ℕ). Numbering (a .bytes .now) (a .at) k (a .count) (l .edges) (l .m)) end (l .inv .1)
 
 pub number-spec : {M : Type 1} → statement M
 number-spec =
@@ -96,6 +103,9 @@ number-spec =
     (tie.spec
     Inv-loop
     μ-loop
+    mul-names
+    add-names
+    empty-requires
     loop-holds
     mul-loop
     mul-u16-at
@@ -106,13 +116,14 @@ number-spec =
     u16-at-requires
     enter-requires
     grow-requires
-    cast-ends
-    mul-ends
-    slice-write-ends
+    cast-edges
+    mul-edges
+    add-edges
+    add-edges-2
+    mul-edges-2
+    slice-write-edges
     add-i
     loop-less
     loop-again
     same-length
-    same-length-2
-    same-length-3
     returns)

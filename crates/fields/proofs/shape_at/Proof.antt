@@ -6,10 +6,9 @@ use native.Mathlib.Omega.{arith}
 use mathlib.Core.Path.{sym, ap, _∙_}
 use Rattle.meaning.specs.Tree.{typeRef}
 use Rattle.bundle.proofs.Forms.{not-type, primitive-meant, typeRef-meant, struct-meant, union-meant, enum-meant, array-meant, sizeUnion-meant}
-use Rattle.bundle.proofs.LeadLaws.{typeRef-there}
 use Rattle.bundle.proofs.TypeTrees.{type-there, no-other}
-use Rattle.sizes.proofs.Heads.{count-refused}
-use Rattle.sizes.proofs.Parts.{type-opened, struct-count}
+use Rattle.bundle.proofs.Heads.{count-refused}
+use Rattle.bundle.proofs.Parts.{typeRef-there, type-opened, struct-count}
 use Rattle.fields.proofs.ShapeLaws.{primitive-plain, union-plain, sizeUnion-plain, typeRef-is, struct-is, enum-is, array-is}
 
 shared-slice-read-kind : tie.Need-shared-slice-read-kind

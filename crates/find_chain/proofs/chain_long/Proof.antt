@@ -1,28 +1,25 @@
 -- `find_chain::chain_long` meets its contract: what the bytes are refused for, or what was found for the bundle that they are.
+use borrow.Author.Needs.{needs}
+use Rattle.find_chain.proofs.chain_long.Statement.{statement}
+use Rattle.find_chain.proofs.chain_long.Tie as tie
 use Prim.Native.Nat.{ℕ}
 use native.Mathlib.Omega.{arith}
 use lib.ListN.{length-replicate}
-use borrow.Author.Needs.{needs}
 use Rattle.meaning.specs.Due.{chaining}
 use Rattle.bundle.proofs.AnswerLaws.{opened-layout, opened-refused}
 use Rattle.chain.proofs.Called.{called, turned-down, has-edges}
-use Rattle.find_chain.proofs.chain_long.Statement.{statement}
-use Rattle.find_chain.proofs.chain_long.Tie as tie
 
 slice-aggregate-open : tie.Need-slice-aggregate-open
 slice-aggregate-open c = search needs
 
 open-requires : tie.Need-open-requires
-open-requires c κs = omega (arith, length-replicate {A = ℕ} 65793 0)
+open-requires c κs = omega (arith, length-replicate {A = ℕ} 2050 0)
 
 enum-known-opening : tie.Need-enum-known-opening
 enum-known-opening c = search needs
 
 find-many-requires : tie.Need-find-many-requires
 find-many-requires c κs = has-edges ((opened-layout _ _ _ _ (c .before .before .before .before .before .«open» .ensures) (c .before .before .opening .given .1)) .0)
-
-answer-for-requires : tie.Need-answer-for-requires
-answer-for-requires c κs = search needs
 
 enum-known-opening-2 : tie.Need-enum-known-opening-2
 enum-known-opening-2 c = search needs
@@ -31,7 +28,7 @@ same-length : tie.Need-same-length
 same-length c = search needs
 
 returns : tie.Need-returns
-returns c = called _ _ ((opened-layout _ _ _ _ (c .before .before .before .before .before .before .before .before .before .«open» .ensures) (c .before .before .before .before .before .before .opening .given .1)) .0) ((opened-layout _ _ _ _ (c .before .before .before .before .before .before .before .before .before .«open» .ensures) (c .before .before .before .before .before .before .opening .given .1)) .1) (c .before .before .before .find-many .ensures) _ (c .before .before .before .find-many .kept .1 .1 .1 .1 .1 .0) (c .answer-for .ensures)
+returns c = let o = opened-layout _ _ _ _ (c .before .before .before .before .before .before .before .before .«open» .ensures) (c .before .before .before .before .before .opening .given .1) in called _ _ (o .0) (o .1) (c .before .before .find-many .ensures)
 
 returns-2 : tie.Need-returns-2
 unfolding chaining
@@ -45,7 +42,6 @@ chain-long-spec =
     open-requires
     enum-known-opening
     find-many-requires
-    answer-for-requires
     enum-known-opening-2
     same-length
     returns

@@ -1,13 +1,13 @@
 -- `find_chain::find_layout_dependency_chain` meets its contract: that of `chain_long`, or as there with short lists.
+use borrow.Author.Needs.{needs}
+use Rattle.find_chain.proofs.find_layout_dependency_chain.Statement.{statement}
+use Rattle.find_chain.proofs.find_layout_dependency_chain.Tie as tie
 use Prim.Native.Nat.{ℕ}
 use native.Mathlib.Omega.{arith}
 use lib.ListN.{length-replicate}
-use borrow.Author.Needs.{needs}
 use Rattle.meaning.specs.Due.{chaining}
 use Rattle.bundle.proofs.AnswerLaws.{opened-layout, opened-refused}
 use Rattle.chain.proofs.Called.{called, turned-down, has-edges}
-use Rattle.find_chain.proofs.find_layout_dependency_chain.Statement.{statement}
-use Rattle.find_chain.proofs.find_layout_dependency_chain.Tie as tie
 
 chain-long-requires : tie.Need-chain-long-requires
 chain-long-requires c κs = search needs
@@ -22,7 +22,7 @@ slice-aggregate-open : tie.Need-slice-aggregate-open
 slice-aggregate-open c = search needs
 
 open-requires : tie.Need-open-requires
-open-requires c κs = omega (arith, length-replicate {A = ℕ} 257 0)
+open-requires c κs = omega (arith, length-replicate {A = ℕ} 2050 0)
 
 enum-known-opening : tie.Need-enum-known-opening
 enum-known-opening c = search needs
@@ -39,9 +39,6 @@ returns-2 c = c .before .before .chain-long2 .ensures
 find-few-requires : tie.Need-find-few-requires
 find-few-requires c κs = (has-edges ((opened-layout _ _ _ _ (c .before .before .before .before .before .before .before .«open» .ensures) (c .before .before .before .before .opening .given .1)) .0), c .before .if2 .left)
 
-answer-for-requires : tie.Need-answer-for-requires
-answer-for-requires c κs = search needs
-
 enum-known-opening-2 : tie.Need-enum-known-opening-2
 enum-known-opening-2 c = search needs
 
@@ -49,7 +46,7 @@ same-length-3 : tie.Need-same-length-3
 same-length-3 c = search needs
 
 returns-3 : tie.Need-returns-3
-returns-3 c = called _ _ ((opened-layout _ _ _ _ (c .before .before .before .before .before .before .before .before .before .before .before .«open» .ensures) (c .before .before .before .before .before .before .before .before .opening .given .1)) .0) ((opened-layout _ _ _ _ (c .before .before .before .before .before .before .before .before .before .before .before .«open» .ensures) (c .before .before .before .before .before .before .before .before .opening .given .1)) .1) (c .before .before .before .find-few .ensures) _ (c .before .before .before .find-few .kept .1 .1 .1 .1 .1 .0) (c .answer-for .ensures)
+returns-3 c = let o = opened-layout _ _ _ _ (c .before .before .before .before .before .before .before .before .before .before .«open» .ensures) (c .before .before .before .before .before .before .before .opening .given .1) in called _ _ (o .0) (o .1) (c .before .before .find-few .ensures)
 
 returns-4 : tie.Need-returns-4
 unfolding chaining
@@ -69,7 +66,6 @@ find-layout-dependency-chain-spec =
     same-length-2
     returns-2
     find-few-requires
-    answer-for-requires
     enum-known-opening-2
     same-length-3
     returns-3

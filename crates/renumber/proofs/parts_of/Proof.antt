@@ -2,7 +2,7 @@
 use borrow.Author.Needs.{needs}
 use mathlib.Core.Path.{sym, ap, _∙_}
 use Rattle.meaning.specs.Kinds.{formParts}
-use Rattle.bundle.specs.declared.Form.the-variants.{OfExpr}
+use Rattle.bundle.specs.declared.Form.the-variants.{OfExpr, OfRecord}
 use Rattle.bundle.specs.View.{formMeant}
 use Rattle.bundle.proofs.Forms.{literal-meant, fieldRef-meant, sizeof-meant, alignof-meant, binary-meant, unary-meant, primitive-meant, typeRef-meant, struct-meant, union-meant, enum-meant, array-meant, sizeUnion-meant, member-meant, record-meant}
 use Rattle.renumber.proofs.parts_of.Statement.{statement}
@@ -62,6 +62,15 @@ enum-known-form-4 c = search needs
 enum-told-12 : tie.Need-enum-told-12
 enum-told-12 c = search needs
 
+enum-told-13 : tie.Need-enum-told-13
+enum-told-13 c = search needs
+
+enum-told-14 : tie.Need-enum-told-14
+enum-told-14 c = search needs
+
+enum-told-15 : tie.Need-enum-told-15
+enum-told-15 c = search needs
+
 returns : tie.Need-returns
 returns c = sym (ap formParts (literal-meant (c .before .before .before .before .form .given .1 ∙ ap OfExpr (c .before .e .given .1))))
 
@@ -105,11 +114,17 @@ returns-14 : tie.Need-returns-14
 returns-14 c = sym (ap formParts (member-meant (c .before .form3 .given .1)))
 
 returns-15 : tie.Need-returns-15
-returns-15 c = sym (ap formParts (record-meant (c .before .form4 .given .1)))
+returns-15 c = sym (ap formParts (record-meant (c .before .before .before .form4 .given .1 ∙ ap OfRecord (c .enum-told12 .given .1))))
 
 returns-16 : tie.Need-returns-16
+returns-16 c = sym (ap formParts (record-meant (c .before .before .before .form4 .given .1 ∙ ap OfRecord (c .enum-told13 .given .1))))
+
+returns-17 : tie.Need-returns-17
+returns-17 c = sym (ap formParts (record-meant (c .before .before .before .form4 .given .1 ∙ ap OfRecord (c .enum-told14 .given .1))))
+
+returns-18 : tie.Need-returns-18
 unfolding formMeant
-returns-16 c = rw (c .enum-told12 .given .1)
+returns-18 c = rw (c .enum-told15 .given .1)
 
 pub parts-of-spec : {M : Type 1} → statement M
 parts-of-spec =
@@ -133,6 +148,9 @@ parts-of-spec =
     enum-known-form-3
     enum-known-form-4
     enum-told-12
+    enum-told-13
+    enum-told-14
+    enum-told-15
     returns
     returns-2
     returns-3
@@ -148,4 +166,6 @@ parts-of-spec =
     returns-13
     returns-14
     returns-15
-    returns-16)
+    returns-16
+    returns-17
+    returns-18)

@@ -9,7 +9,8 @@ slice-aggregate-renumber-in : tie.Need-slice-aggregate-renumber-in
 slice-aggregate-renumber-in c = search needs
 
 renumber-in-requires : tie.Need-renumber-in-requires
-renumber-in-requires c κs = omega (arith, length-replicate {A = ℕ} 257 0)
+renumber-in-requires c κs = let n = length-replicate {A = ℕ} 2050 0 in
+    (omega (arith, n), λ _. omega (arith, n, c .before .before .if1 .taken))
 
 same-length : tie.Need-same-length
 same-length c = search needs
@@ -21,7 +22,8 @@ slice-aggregate-renumber-in-2 : tie.Need-slice-aggregate-renumber-in-2
 slice-aggregate-renumber-in-2 c = search needs
 
 renumber-in-requires-2 : tie.Need-renumber-in-requires-2
-renumber-in-requires-2 c κs = omega (arith, length-replicate {A = ℕ} 65793 0)
+renumber-in-requires-2 c κs = let n = length-replicate {A = ℕ} 33794 0 in
+    (omega (arith, n), λ l. omega (arith, n, l))
 
 same-length-2 : tie.Need-same-length-2
 same-length-2 c = search needs

@@ -1,6 +1,5 @@
 use borrow.Author.Needs.{needs}
 use native.Mathlib.Omega.{arith}
-use Rattle.names.proofs.Tables.{zero-table}
 use Rattle.meaning.specs.Encoding.{Bytes}
 use Rattle.meaning.specs.Calls.{Accepted}
 use Rattle.meaning.proofs.RenumberingLaws.{accepted-whole}
@@ -28,13 +27,11 @@ enum-told c = search needs
 returns : tie.Need-returns
 returns c = answers-narrow (bound (c .before .before .before .before .before .before .before .before .before)) (accepted (c .before)) _ (c .if1 .taken)
 
-slice-aggregate-scan : tie.Need-slice-aggregate-scan
-slice-aggregate-scan c = search needs
-
 scan-requires : tie.Need-scan-requires
 scan-requires c κs =
     let a = accepted (c .before .before .before) in
-    ((accepted-small a, c .before .before .if1 .left), (accepted-whole a, zero-table))
+    let p = c .before .before .before .before .before .before .before .before .before .before .before .before .pre in
+    ((accepted-small a, c .before .before .if1 .left), (accepted-whole a, omega (arith, p .1 (accepted-small a))))
 
 enum-known-opening : tie.Need-enum-known-opening
 enum-known-opening c = search needs
@@ -50,7 +47,7 @@ same-length c = search needs
 
 returns-2 : tie.Need-returns-2
 returns-2 c =
-    answers-renumbered (bound (c .before .before .before .before .before .before .before .before .before .before .before .before .before .before .before)) (accepted (c .before .before .before .before .before .before .before)) _ _ (c .before .before .before .before .before .before .if1 .left) (c .before .before .before .scan .ensures)
+    answers-renumbered (bound (c .before .before .before .before .before .before .before .before .before .before .before .before .before .before .before .before)) (accepted (c .before .before .before .before .before .before .before .before)) _ _ (c .before .before .before .before .before .before .before .if1 .left) (c .before .before .before .before .scan .ensures)
 
 same-length-4 : tie.Need-same-length-4
 same-length-4 c = search needs
@@ -66,7 +63,6 @@ renumber-in-spec =
     enum-told
     same-length
     returns
-    slice-aggregate-scan
     scan-requires
     enum-known-opening
     same-length-2

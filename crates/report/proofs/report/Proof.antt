@@ -1,14 +1,15 @@
--- `reporting::report` meets its contract: that of `report_long`, or as there with short lists.
+-- `report::report` meets its contract: that of `report_long`, or as there with few places.
 use borrow.Author.Needs.{needs}
-use Rattle.report.proofs.report.Statement.{statement}
-use Rattle.report.proofs.report.Tie as tie
 use Prim.Native.Nat.{ℕ}
 use native.Mathlib.Omega.{arith}
 use lib.ListN.{length-replicate}
 use Rattle.meaning.specs.Due.{reporting}
 use Rattle.bundle.proofs.AnswerLaws.{opened-layout, opened-refused}
 use Rattle.chain.proofs.Called.{turned-down}
+use Rattle.report.proofs.Noted.{layout-noted}
 use Rattle.draft.proofs.Reporting.{called}
+use Rattle.report.proofs.report.Statement.{statement}
+use Rattle.report.proofs.report.Tie as tie
 
 report-long-requires : tie.Need-report-long-requires
 report-long-requires c κs = search needs
@@ -17,41 +18,49 @@ same-length : tie.Need-same-length
 same-length c = search needs
 
 returns : tie.Need-returns
-returns c = c .before .before .report-long .ensures
+returns c = search needs
 
 slice-aggregate-open : tie.Need-slice-aggregate-open
 slice-aggregate-open c = search needs
 
 open-requires : tie.Need-open-requires
-open-requires c κs = omega (arith, length-replicate {A = ℕ} 257 0)
+open-requires c κs = omega (arith, length-replicate {A = ℕ} 4013 0)
 
 enum-known-opening : tie.Need-enum-known-opening
 enum-known-opening c = search needs
 
-slice-aggregate-report-few : tie.Need-slice-aggregate-report-few
-slice-aggregate-report-few c = search needs
-
-report-few-requires : tie.Need-report-few-requires
-report-few-requires c κs = (c .before .before .if2 .taken, opened-layout _ _ _ _ (c .before .before .before .before .before .before .before .before .«open» .ensures) (c .before .before .before .before .before .opening .given .1))
-
 report-long-requires-2 : tie.Need-report-long-requires-2
 report-long-requires-2 c κs = search needs
-
-enum-known-opening-2 : tie.Need-enum-known-opening-2
-enum-known-opening-2 c = search needs
 
 same-length-2 : tie.Need-same-length-2
 same-length-2 c = search needs
 
 returns-2 : tie.Need-returns-2
-unfolding reporting
-returns-2 c = let o = opened-layout _ _ _ _ (c .before .before .before .before .before .before .before .before .before .before .before .«open» .ensures) (c .before .before .before .before .before .before .before .before .opening .given .1) in called (o .0) (o .1) (c .before .before .report-few .ensures)
+returns-2 c = search needs
+
+slice-aggregate-note-structs : tie.Need-slice-aggregate-note-structs
+slice-aggregate-note-structs c = search needs
+
+note-structs-requires : tie.Need-note-structs-requires
+note-structs-requires c κs = let o = opened-layout _ _ _ _ (c .before .before .before .before .before .before .before .«open» .ensures) (c .before .before .before .before .opening .given .1) in
+    ((o .0 .table, o .0 .small), omega (arith, length-replicate {A = ℕ} 4013 0, c .before .before .before .before .before .before .before .«open» .kept .1 .0))
+
+slice-aggregate-report-few : tie.Need-slice-aggregate-report-few
+slice-aggregate-report-few c = search needs
+
+report-few-requires : tie.Need-report-few-requires
+report-few-requires c κs = let o = opened-layout _ _ _ _ (c .before .before .before .before .before .before .before .before .before .before .before .«open» .ensures) (c .before .before .before .before .before .before .before .before .opening .given .1) in let n = c .before .before .before .note-structs .ensures in
+    (omega (arith, c .before .before .before .before .before .if2 .left), (layout-noted (o .0) (n .0), o .1, n .1))
+
+enum-known-opening-2 : tie.Need-enum-known-opening-2
+enum-known-opening-2 c = search needs
 
 same-length-3 : tie.Need-same-length-3
 same-length-3 c = search needs
 
 returns-3 : tie.Need-returns-3
-returns-3 c = c .before .before .report-long2 .ensures
+unfolding reporting
+returns-3 c = let o = opened-layout _ _ _ _ (c .before .before .before .before .before .before .before .before .before .before .before .before .before .before .«open» .ensures) (c .before .before .before .before .before .before .before .before .before .before .before .opening .given .1) in called (o .0) (o .1) (c .before .before .report-few .ensures)
 
 returns-4 : tie.Need-returns-4
 unfolding reporting
@@ -67,12 +76,14 @@ report-spec =
     slice-aggregate-open
     open-requires
     enum-known-opening
-    slice-aggregate-report-few
-    report-few-requires
     report-long-requires-2
-    enum-known-opening-2
     same-length-2
     returns-2
+    slice-aggregate-note-structs
+    note-structs-requires
+    slice-aggregate-report-few
+    report-few-requires
+    enum-known-opening-2
     same-length-3
     returns-3
     returns-4)

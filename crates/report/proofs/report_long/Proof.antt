@@ -1,29 +1,38 @@
--- `reporting::report_long` meets its contract: what the bytes are refused for, or the report of the bundle that they are.
+-- `report::report_long` meets its contract: what the bytes are refused for, or the report of the bundle that they are.
 use borrow.Author.Needs.{needs}
-use Rattle.report.proofs.report_long.Statement.{statement}
-use Rattle.report.proofs.report_long.Tie as tie
 use Prim.Native.Nat.{ℕ}
 use native.Mathlib.Omega.{arith}
 use lib.ListN.{length-replicate}
 use Rattle.meaning.specs.Due.{reporting}
 use Rattle.bundle.proofs.AnswerLaws.{opened-layout, opened-refused}
 use Rattle.chain.proofs.Called.{turned-down}
+use Rattle.report.proofs.Noted.{layout-noted}
 use Rattle.draft.proofs.Reporting.{called}
+use Rattle.report.proofs.report_long.Statement.{statement}
+use Rattle.report.proofs.report_long.Tie as tie
 
 slice-aggregate-open : tie.Need-slice-aggregate-open
 slice-aggregate-open c = search needs
 
 open-requires : tie.Need-open-requires
-open-requires c κs = omega (arith, length-replicate {A = ℕ} 65793 0)
+open-requires c κs = omega (arith, length-replicate {A = ℕ} 56920 0)
 
 enum-known-opening : tie.Need-enum-known-opening
 enum-known-opening c = search needs
+
+slice-aggregate-note-structs : tie.Need-slice-aggregate-note-structs
+slice-aggregate-note-structs c = search needs
+
+note-structs-requires : tie.Need-note-structs-requires
+note-structs-requires c κs = let o = opened-layout _ _ _ _ (c .before .before .before .before .before .«open» .ensures) (c .before .before .opening .given .1) in
+    ((o .0 .table, o .0 .small), omega (arith, o .0 .small, length-replicate {A = ℕ} 56920 0, c .before .before .before .before .before .«open» .kept .1 .0))
 
 slice-aggregate-report-many : tie.Need-slice-aggregate-report-many
 slice-aggregate-report-many c = search needs
 
 report-many-requires : tie.Need-report-many-requires
-report-many-requires c κs = opened-layout _ _ _ _ (c .before .before .before .before .before .before .«open» .ensures) (c .before .before .before .opening .given .1)
+report-many-requires c κs = let o = opened-layout _ _ _ _ (c .before .before .before .before .before .before .before .before .before .«open» .ensures) (c .before .before .before .before .before .before .opening .given .1) in let n = c .before .before .before .note-structs .ensures in
+    (layout-noted (o .0) (n .0), o .1, n .1)
 
 enum-known-opening-2 : tie.Need-enum-known-opening-2
 enum-known-opening-2 c = search needs
@@ -33,7 +42,7 @@ same-length c = search needs
 
 returns : tie.Need-returns
 unfolding reporting
-returns c = let o = opened-layout _ _ _ _ (c .before .before .before .before .before .before .before .before .before .«open» .ensures) (c .before .before .before .before .before .before .opening .given .1) in called (o .0) (o .1) (c .before .before .report-many .ensures)
+returns c = let o = opened-layout _ _ _ _ (c .before .before .before .before .before .before .before .before .before .before .before .before .«open» .ensures) (c .before .before .before .before .before .before .before .before .before .opening .given .1) in called (o .0) (o .1) (c .before .before .report-many .ensures)
 
 returns-2 : tie.Need-returns-2
 unfolding reporting
@@ -46,6 +55,8 @@ report-long-spec =
     slice-aggregate-open
     open-requires
     enum-known-opening
+    slice-aggregate-note-structs
+    note-structs-requires
     slice-aggregate-report-many
     report-many-requires
     enum-known-opening-2

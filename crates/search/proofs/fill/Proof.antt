@@ -1,96 +1,91 @@
--- `search::fill` meets its contract. The loop writes from the back: the places from k on are done, and the chain of entry i goes before them.
-use Prim.Native.Nat.{ℕ, _+_, _-_, _<_}
-use mathlib.Core.Path.{_≡_, subst}
-use lib.ListN.{getD}
-use Rattle.chain.specs.Queue.{namesOf}
-use Rattle.chain.proofs.Entries.{name-of}
-use Rattle.chain.proofs.Filling.{Filling, filling-start, filling-turn, filling-end}
-use native.Mathlib.Omega.{arith}
-use borrow.Author.Needs.{needs}
+-- `search::fill` meets its contract. The invariant: the first i names are written.
 use Rattle.search.proofs.fill.Statement.{statement}
 use Rattle.search.proofs.fill.Tie as tie
+use borrow.Author.Needs.{needs}
+use Prim.Native.Nat.{_+_, _-_, _*_}
+use native.Mathlib.Omega.{arith}
+use lib.ListN.{length-set}
+use Rattle.chain.specs.Index.{nameIn}
+use Rattle.search.proofs.Reading.{Filling, filling-start, filling-next, filling-end}
 
 abbrev Inv-loop : tie.InvT-loop
-Inv-loop names queue parents entry len list₀ i₀ k₀ list i k = Filling (namesOf names queue) parents list₀ list entry len i k
+Inv-loop edges count x n work₀ names y₀ i₀ work y i = Filling count edges work₀ x n work y i
 
 abbrev μ-loop : tie.MeasureT-loop
-μ-loop names queue parents entry len list₀ i₀ k₀ list i k = i
+μ-loop edges count x n work₀ names y₀ i₀ work y i = n - i
+
+mul-names : tie.Need-mul-names Inv-loop μ-loop
+mul-names c = omega (arith, c .pre .0 .0 .few)
+
+add-names : tie.Need-add-names Inv-loop μ-loop
+add-names c = omega (arith, c .pre .0 .0 .few)
+
+add-names-2 : tie.Need-add-names-2 Inv-loop μ-loop
+add-names-2 c = omega (arith, c .pre .0 .0 .few)
 
 loop-holds : tie.Need-loop-holds Inv-loop μ-loop
-loop-holds c = filling-start _ _ _ _ (c .pre .0 .2) _ (c .pre .1 .1 .0) (c .pre .1 .1 .1)
+loop-holds c = let p = c .pre in filling-start (p .0 .0) (p .0 .1) (p .0 .2) (p .1 .1) (p .1 .2)
 
-sub-k : tie.Need-sub-k Inv-loop μ-loop
-sub-k c = search needs
+mul-work : tie.Need-mul-work Inv-loop μ-loop
+mul-work c = omega (arith, c .before .loop .inv .inside (c .loop-test .taken) .0, c .before .before .pre .0 .0 .small, c .before .before .pre .0 .0 .few, c .before .before .pre .0 .0 .size, c .before .before .pre .0 .1, c .before .before .pre .0 .2)
 
-mul-x : tie.Need-mul-x Inv-loop μ-loop
-mul-x c = search needs
+add-work : tie.Need-add-work Inv-loop μ-loop
+add-work c = omega (arith, c .before .loop .inv .inside (c .loop-test .taken) .0, c .before .before .pre .0 .0 .small, c .before .before .pre .0 .0 .few, c .before .before .pre .0 .0 .size, c .before .before .pre .0 .1, c .before .before .pre .0 .2)
 
-shared-slice-read-x : tie.Need-shared-slice-read-x Inv-loop μ-loop
-shared-slice-read-x c = search needs
+mul-work-2 : tie.Need-mul-work-2 Inv-loop μ-loop
+mul-work-2 c = omega (arith, c .before .loop .inv .inside (c .loop-test .taken) .0, c .before .before .pre .0 .0 .small, c .before .before .pre .0 .0 .few, c .before .before .pre .0 .0 .size, c .before .before .pre .0 .1, c .before .before .pre .0 .2)
 
-cast-x : tie.Need-cast-x Inv-loop μ-loop
-cast-x c = omega (arith, c .shared-slice-known .given (c .before .before .loop .i))
+shared-slice-read-work : tie.Need-shared-slice-read-work Inv-loop μ-loop
+shared-slice-read-work c = omega (arith, c .before .before .loop .inv .inside (c .before .loop-test .taken) .0, c .before .before .before .pre .0 .0 .small, c .before .before .before .pre .0 .0 .few, c .before .before .before .pre .0 .0 .size, c .before .before .before .pre .0 .1, c .before .before .before .pre .0 .2)
 
-mul-list : tie.Need-mul-list Inv-loop μ-loop
-mul-list c = let l = c .before .before .loop in
-    omega (arith, c .before .before .before .pre .1 .0 (l .i) (omega (arith, l .inv .inside)))
+mul-work-3 : tie.Need-mul-work-3 Inv-loop μ-loop
+mul-work-3 c = omega (arith, c .before .before .loop .inv .below .size, c .before .before .before .pre .0 .0 .small, c .before .before .before .pre .0 .0 .few, c .before .before .before .pre .0 .0 .size, c .before .before .before .pre .0 .1, c .before .before .before .pre .0 .2)
 
-shared-slice-read-list : tie.Need-shared-slice-read-list Inv-loop μ-loop
-shared-slice-read-list c = let l = c .before .before .before .loop in
-    omega (arith, c .before .before .before .before .pre .1 .0 (l .i) (omega (arith, l .inv .inside)))
+add-work-2 : tie.Need-add-work-2 Inv-loop μ-loop
+add-work-2 c = omega (arith, c .before .before .loop .inv .below .size, c .before .before .before .pre .0 .0 .small, c .before .before .before .pre .0 .0 .few, c .before .before .before .pre .0 .0 .size, c .before .before .before .pre .0 .1, c .before .before .before .pre .0 .2)
 
-mul-list-2 : tie.Need-mul-list-2 Inv-loop μ-loop
-mul-list-2 c = search needs
+add-work-3 : tie.Need-add-work-3 Inv-loop μ-loop
+add-work-3 c = omega (arith, c .before .before .loop .inv .below .size, c .before .before .before .pre .0 .0 .small, c .before .before .before .pre .0 .0 .few, c .before .before .before .pre .0 .0 .size, c .before .before .before .pre .0 .1, c .before .before .before .pre .0 .2)
 
-slice-write-list : tie.Need-slice-write-list Inv-loop μ-loop
-slice-write-list c = search needs
+mul-work-4 : tie.Need-mul-work-4 Inv-loop μ-loop
+mul-work-4 c = omega (arith, c .before .before .loop .inv .below .size, c .before .before .before .pre .0 .0 .small, c .before .before .before .pre .0 .0 .few, c .before .before .before .pre .0 .0 .size, c .before .before .before .pre .0 .1, c .before .before .before .pre .0 .2)
 
-mul-i : tie.Need-mul-i Inv-loop μ-loop
-mul-i c = search needs
+slice-write-work : tie.Need-slice-write-work Inv-loop μ-loop
+slice-write-work c = omega (arith, c .before .before .loop .inv .below .size, c .before .before .before .pre .0 .0 .small, c .before .before .before .pre .0 .0 .few, c .before .before .before .pre .0 .0 .size, c .before .before .before .pre .0 .1, c .before .before .before .pre .0 .2)
 
-shared-slice-read-i : tie.Need-shared-slice-read-i Inv-loop μ-loop
-shared-slice-read-i c = search needs
+mul-y : tie.Need-mul-y Inv-loop μ-loop
+mul-y c = omega (arith, c .before .before .loop .inv .inside (c .before .loop-test .taken) .0, c .before .before .before .pre .0 .0 .small, c .before .before .before .pre .0 .0 .few, c .before .before .before .pre .0 .0 .size, c .before .before .before .pre .0 .1, c .before .before .before .pre .0 .2)
 
--- the parent of an entry but the first is before it
-parent-below : (c : tie.After-shared-slice-known3 Inv-loop μ-loop) → getD (c .before .before .before .before .before .args .parents .now) (c .before .before .before .before .loop .i) 0 < c .before .before .before .before .loop .i
-parent-below c = c .before .before .before .before .before .pre .0 .2 (c .before .before .before .before .loop .i) (omega arith) (omega (arith, c .before .before .before .before .loop .inv .inside))
+add-y : tie.Need-add-y Inv-loop μ-loop
+add-y c = omega (arith, c .before .before .loop .inv .inside (c .before .loop-test .taken) .0, c .before .before .before .pre .0 .0 .small, c .before .before .before .pre .0 .0 .few, c .before .before .before .pre .0 .0 .size, c .before .before .before .pre .0 .1, c .before .before .before .pre .0 .2)
 
-cast-i : tie.Need-cast-i Inv-loop μ-loop
-cast-i c = omega (arith, parent-below c)
+mul-y-2 : tie.Need-mul-y-2 Inv-loop μ-loop
+mul-y-2 c = omega (arith, c .before .before .loop .inv .inside (c .before .loop-test .taken) .0, c .before .before .before .pre .0 .0 .small, c .before .before .before .pre .0 .0 .few, c .before .before .before .pre .0 .0 .size, c .before .before .before .pre .0 .1, c .before .before .before .pre .0 .2)
+
+slice-read-y : tie.Need-slice-read-y Inv-loop μ-loop
+slice-read-y c = let l = c .before .before .before .loop in
+    let a = c .before .before .before .before .args in
+    omega (arith, c .before .before .before .loop .inv .inside (c .before .before .loop-test .taken) .0, c .before .before .before .loop .inv .below .size, c .before .before .before .before .pre .0 .0 .small, c .before .before .before .before .pre .0 .0 .few, c .before .before .before .before .pre .0 .0 .size, c .before .before .before .before .pre .0 .1, c .before .before .before .before .pre .0 .2, length-set (l .work) (6 * a .count + 1 + l .i) (nameIn (a .count) (a .edges .now) (l .y)))
+
+cast-y : tie.Need-cast-y Inv-loop μ-loop
+cast-y c = let l = c .before .before .before .loop in
+    let a = c .before .before .before .before .args in
+    omega (arith, c .slice-known .given (3 * l .y + 3))
+
+add-i : tie.Need-add-i Inv-loop μ-loop
+add-i c = search needs
 
 loop-less : tie.Need-loop-less Inv-loop μ-loop
-loop-less c = omega (arith, parent-below c)
+loop-less c = search needs
 
 loop-again : tie.Need-loop-again Inv-loop μ-loop
-loop-again c = let a = c .before .before .before .before .before in
-    let l = c .before .before .before .before .loop in
-    let one : l .k ≡ l .k - 1 + 1 = omega arith in
-    rw (← name-of (a .args .names .now) (a .args .queue .now) (l .i) (omega (arith, l .inv .inside)))
-    (filling-turn _ _ _ _ (a .pre .0 .2) _ (a .pre .1 .1 .0) (a .pre .1 .1 .1) _ (l .i) (l .k - 1)
-    (subst (λ (x : ℕ). Filling (namesOf (a .args .names .now) (a .args .queue .now)) (a .args .parents .now) (a .args .list .now) (l .list) (a .args .entry) (a .args .len) (l .i) x) one (l .inv)) (omega arith))
-
-shared-slice-read-x-2 : tie.Need-shared-slice-read-x-2 Inv-loop μ-loop
-shared-slice-read-x-2 c = search needs
-
-cast-x-2 : tie.Need-cast-x-2 Inv-loop μ-loop
-cast-x-2 c = omega (arith, c .shared-slice-known4 .given 0)
-
-mul-list-3 : tie.Need-mul-list-3 Inv-loop μ-loop
-mul-list-3 c = omega (arith, c .before .before .before .pre .1 .0 0 (omega arith))
-
-shared-slice-read-list-2 : tie.Need-shared-slice-read-list-2 Inv-loop μ-loop
-shared-slice-read-list-2 c = omega (arith, c .before .before .before .before .pre .1 .0 0 (omega arith))
-
-slice-write-list-2 : tie.Need-slice-write-list-2 Inv-loop μ-loop
-slice-write-list-2 c = search needs
+loop-again c = let p = c .before .before .before .before .pre in filling-next (p .0 .0) (p .0 .1) (p .0 .2) (p .1 .0 .1) (c .before .before .loop-test .taken) (c .before .before .before .loop .inv)
 
 same-length : tie.Need-same-length Inv-loop μ-loop
-same-length c = search needs
+same-length c = c .before .loop .inv .below .size
 
 returns : tie.Need-returns Inv-loop μ-loop
-returns c = let a = c .before .before .before .before in
-    rw (← name-of (a .args .names .now) (a .args .queue .now) 0 (omega arith))
-    (filling-end _ _ _ _ (a .pre .0 .2) _ (a .pre .1 .1 .0) (a .pre .1 .1 .1) _ _ _ (c .before .before .before .loop .inv) (c .before .before .loop-test .left))
+returns c = let p = c .before .before .pre in (filling-end (p .0 .0) (p .0 .1) (p .0 .2) (omega arith) (c .before .loop .inv), c .before .loop .inv .below)
 
 pub fill-spec : {M : Type 1} → statement M
 fill-spec =
@@ -98,24 +93,26 @@ fill-spec =
     (tie.spec
     Inv-loop
     μ-loop
+    mul-names
+    add-names
+    add-names-2
     loop-holds
-    sub-k
-    mul-x
-    shared-slice-read-x
-    cast-x
-    mul-list
-    shared-slice-read-list
-    mul-list-2
-    slice-write-list
-    mul-i
-    shared-slice-read-i
-    cast-i
+    mul-work
+    add-work
+    mul-work-2
+    shared-slice-read-work
+    mul-work-3
+    add-work-2
+    add-work-3
+    mul-work-4
+    slice-write-work
+    mul-y
+    add-y
+    mul-y-2
+    slice-read-y
+    cast-y
+    add-i
     loop-less
     loop-again
-    shared-slice-read-x-2
-    cast-x-2
-    mul-list-3
-    shared-slice-read-list-2
-    slice-write-list-2
     same-length
     returns)

@@ -2,20 +2,13 @@ use borrow.Author.Needs.{needs}
 use Rattle.size_tests.proofs.type_contains_jagged_array.Statement.{statement}
 use Rattle.size_tests.proofs.type_contains_jagged_array.Tie as tie
 use mathlib.Core.Path.{_∙_}
-use Rattle.sizes.proofs.TestLaws.{ready-type, jagged-inline}
+use Rattle.size_tests.proofs.TestLaws.{jagged-inline}
 
-inline-type-test-requires : tie.Need-inline-type-test-requires
-inline-type-test-requires c κs = (c .before .before .before .pre .0, (c .before .before .before .pre .1, ready-type (c .before .before .before .pre .0) (c .before .before .before .pre .2) _ (c .before .before .before .pre .3) _))
-
-is-holds-requires : tie.Need-is-holds-requires
-is-holds-requires c κs = search needs
+type-test-requires : tie.Need-type-test-requires
+type-test-requires c κs = search needs
 
 returns : tie.Need-returns
-returns c = (c .is-holds .ensures ∙ jagged-inline _ _ _ (c .before .before .before .before .before .pre .1) _ (c .before .inline-type-test .ensures .0), c .before .inline-type-test .ensures .1)
+returns c = (c .type-test .ensures .0 ∙ jagged-inline _ _ _, c .type-test .ensures .1)
 
 pub type-contains-jagged-array-spec : {M : Type 1} → statement M
-type-contains-jagged-array-spec =
-    tie.close (tie.spec
-    inline-type-test-requires
-    is-holds-requires
-    returns)
+type-contains-jagged-array-spec = tie.close (tie.spec type-test-requires returns)

@@ -5,8 +5,8 @@ use native.Mathlib.Omega.{arith}
 use mathlib.Core.Path.{sym, _∙_}
 use Rattle.bundle.proofs.Forms.{not-type, enum-meant}
 use Rattle.bundle.proofs.TypeTrees.{type-deep, type-there, no-other}
-use Rattle.sizes.proofs.Parts.{type-opened, type-meant, enum-count, tag-read, enum-parts}
-use Rattle.sizes.proofs.Heads.{count-refused}
+use Rattle.bundle.proofs.Parts.{type-opened, type-meant, enum-count, tag-read, enum-parts}
+use Rattle.bundle.proofs.Heads.{count-refused}
 use Rattle.sizes.proofs.ReferenceLaws.{expr-no}
 use Rattle.sizes.proofs.PrimitiveLaws.{constant-enum-not, constant-few, constant-more}
 

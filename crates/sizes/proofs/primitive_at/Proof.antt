@@ -7,7 +7,7 @@ use Rattle.bundle.proofs.Forms.{not-type, primitive-meant}
 use Rattle.bundle.proofs.TypeTrees.{type-there, no-other}
 use Rattle.sizes.specs.declared.Size.the-variants.{Bytes}
 use Rattle.sizes.specs.Paths.{sizeShown}
-use Rattle.sizes.proofs.Parts.{type-opened, type-meant}
+use Rattle.bundle.proofs.Parts.{type-opened, type-meant}
 use Rattle.sizes.proofs.PrimitiveLaws.{primitive-by, primitive-not}
 
 shared-slice-read-kind : tie.Need-shared-slice-read-kind

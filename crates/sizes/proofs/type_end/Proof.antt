@@ -5,7 +5,7 @@ use Rattle.sizes.proofs.type_end.Tie as tie
 use mathlib.Core.Path.{sym, _∙_}
 use Rattle.bundle.specs.View.{typeFormMeant}
 use Rattle.sizes.specs.Scan.{typeEnd}
-use Rattle.sizes.proofs.Heads.{union-next, union-refused}
+use Rattle.sizes.proofs.ScanLaws.{union-next, union-refused}
 
 enum-told : tie.Need-enum-told
 enum-told c = search needs

@@ -8,7 +8,7 @@ use Rattle.validate.specs.Validating.{Wrote, Room}
 use Rattle.validate.proofs.Validators.{expr-no, enum-violations}
 
 add-start : tie.Need-add-start
-add-start c = omega (arith, c .before .before .before .before .before .before .before .before .before .before .before .before .before .pre .1 .1 .1 .inside)
+add-start c = omega (arith, c .before .before .before .before .before .before .pre .1 .1 .0 .inside)
 
 expr-at-requires : tie.Need-expr-at-requires
 expr-at-requires c κs = search needs
@@ -17,31 +17,23 @@ enum-known-step : tie.Need-enum-known-step
 enum-known-step c = search needs
 
 validate-references-requires : tie.Need-validate-references-requires
-validate-references-requires c κs = (c .before .before .before .before .before .before .before .before .before .before .before .before .before .before .before .before .before .before .before .before .before .before .before .pre .0, (c .before .before .before .before .before .before .before .before .before .before .before .before .before .before .before .before .before .before .before .before .before .before .before .pre .1 .0, ((c .before .before .before .before .before .before .before .before .before .before .before .before .before .before .before .before .before .before .before .before .before .before .before .pre .1 .1 .0, expr-bound 23 _ _ _ (sym (c .before .before .before .before .before .before .before .step .given .1) ∙ c .before .before .before .before .before .before .before .before .before .expr-at .ensures), expr-fits 23 _ _ _ (sym (c .before .before .before .before .before .before .before .step .given .1) ∙ c .before .before .before .before .before .before .before .before .before .expr-at .ensures)), subst (Room (c .before .before .before .before .before .before .before .before .before .before .before .before .before .before .before .before .before .before .before .before .before .before .before .args .position)) (enum-violations _ (c .before .before .before .before .before .before .before .before .before .before .before .before .before .before .before .before .before .before .before .before .before .before .before .args .subject) (c .before .before .before .before .before .before .before .before .before .before .before .before .before .before .before .before .before .before .before .before .before .before .before .pre .1 .1 .1) _ (sym (c .before .before .before .before .before .before .before .step .given .1) ∙ c .before .before .before .before .before .before .before .before .before .expr-at .ensures)) (c .before .before .before .before .before .before .before .before .before .before .before .before .before .before .before .before .before .before .before .before .before .before .before .pre .1 .1 .2))))
+validate-references-requires c κs = (c .before .before .before .before .before .before .before .before .before .before .before .before .before .pre .0, (c .before .before .before .before .before .before .before .before .before .before .before .before .before .pre .1 .0, (expr-bound 23 _ _ _ (sym (c .before .before .before .before .step .given .1) ∙ c .before .before .before .before .before .before .expr-at .ensures), expr-fits 23 _ _ _ (sym (c .before .before .before .before .step .given .1) ∙ c .before .before .before .before .before .before .expr-at .ensures), subst (Room (c .before .before .before .before .before .before .before .before .before .before .before .before .before .args .position)) (enum-violations _ (c .before .before .before .before .before .before .before .before .before .before .before .before .before .args .subject) (c .before .before .before .before .before .before .before .before .before .before .before .before .before .pre .1 .1 .0) _ (sym (c .before .before .before .before .step .given .1) ∙ c .before .before .before .before .before .before .expr-at .ensures)) (c .before .before .before .before .before .before .before .before .before .before .before .before .before .pre .1 .1 .1))))
 
 enum-told : tie.Need-enum-told
 enum-told c = search needs
 
 same-length : tie.Need-same-length
-same-length c = search needs
+same-length c = c .before .before .before .before .validate-references .kept .1 .1 .1 .1 .1 .1 .1 .0
 
 same-length-2 : tie.Need-same-length-2
-same-length-2 c = search needs
-
-same-length-3 : tie.Need-same-length-3
-same-length-3 c = search needs
-
-same-length-4 : tie.Need-same-length-4
-same-length-4 c = search needs
-
-same-length-5 : tie.Need-same-length-5
-same-length-5 c = search needs
+same-length-2 c = c .before .before .before .before .validate-references .kept .1 .1 .1 .1 .1 .1 .1 .1 .0
 
 returns : tie.Need-returns
-returns c = let w = c .before .before .before .before .before .before .before .before .before .before .validate-references in (subst (λ vs. Wrote vs (c .before .before .before .before .before .before .before .before .before .before .before .before .before .before .before .before .before .before .before .before .before .before .before .before .before .before .before .before .before .before .before .before .before .before .args .out .now) (c .before .before .before .before .before .before .before .before .before .before .before .before .before .before .before .before .before .before .before .before .before .before .before .before .before .before .before .before .before .before .before .before .before .before .args .position) (w .last .1 .1 .1 .1 .1 .1 .1 .1 .1 .1 .1 .1 .1 .1 .1 .1 .1 .1 .0) (w .result)) (sym (enum-violations _ (c .before .before .before .before .before .before .before .before .before .before .before .before .before .before .before .before .before .before .before .before .before .before .before .before .before .before .before .before .before .before .before .before .before .before .args .subject) (c .before .before .before .before .before .before .before .before .before .before .before .before .before .before .before .before .before .before .before .before .before .before .before .before .before .before .before .before .before .before .before .before .before .before .pre .1 .1 .1) _ (sym (c .before .before .before .before .before .before .before .before .before .before .before .before .before .before .before .before .before .before .step .given .1) ∙ c .before .before .before .before .before .before .before .before .before .before .before .before .before .before .before .before .before .before .before .before .expr-at .ensures))) (w .ensures .0), w .ensures .1)
+returns c = let w = c .before .before .before .before .validate-references in
+    (subst (λ vs. Wrote vs (c .before .before .before .before .before .before .before .before .before .before .before .before .before .before .before .before .before .before .args .out .now) (c .before .before .before .before .before .before .before .before .before .before .before .before .before .before .before .before .before .before .args .position) (w .last .1 .1 .1 .1 .1 .1 .1 .1 .0) (w .result)) (sym (enum-violations _ (c .before .before .before .before .before .before .before .before .before .before .before .before .before .before .before .before .before .before .args .subject) (c .before .before .before .before .before .before .before .before .before .before .before .before .before .before .before .before .before .before .pre .1 .1 .0) _ (sym (c .before .before .before .before .before .before .before .before .before .step .given .1) ∙ c .before .before .before .before .before .before .before .before .before .before .before .expr-at .ensures))) (w .ensures .0), w .ensures .1)
 
 returns-2 : tie.Need-returns-2
-returns-2 c = absurd (expr-no _ _ _ (c .before .before .before .before .before .before .before .before .before .before .before .before .before .before .before .before .pre .1 .1 .1 .reads) (sym (c .enum-told .given .1) ∙ c .before .before .expr-at .ensures))
+returns-2 c = absurd (expr-no _ _ _ (c .before .before .before .before .before .before .before .before .before .pre .1 .1 .0 .reads) (sym (c .enum-told .given .1) ∙ c .before .before .expr-at .ensures))
 
 pub validate-enum-tag-constraints-spec : {M : Type 1} → statement M
 validate-enum-tag-constraints-spec =
@@ -54,8 +46,5 @@ validate-enum-tag-constraints-spec =
     enum-told
     same-length
     same-length-2
-    same-length-3
-    same-length-4
-    same-length-5
     returns
     returns-2)

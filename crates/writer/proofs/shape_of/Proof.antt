@@ -6,7 +6,7 @@ use borrow.Author.Tests.{eq-eqb, ne-eqb}
 use native.Mathlib.Omega.{arith}
 use Rattle.bundle.specs.View.{formMeant}
 use Rattle.writer.specs.Shapes.{shapedOf, shapeOf}
-use Rattle.writer.proofs.ShapeLaws.{bodies, kind-sound}
+use Rattle.writer.proofs.ShapeLaws.{bodies, kind-sound, record-kind}
 
 form-of-requires : tie.Need-form-of-requires
 form-of-requires c κs = search needs
@@ -58,14 +58,14 @@ no-part-requires-5 c κs = search needs
 body-requires-2 : tie.Need-body-requires-2
 body-requires-2 c κs = search needs
 
-enum-told : tie.Need-enum-told
-enum-told c = search needs
+enum-known-form-4 : tie.Need-enum-known-form-4
+enum-known-form-4 c = search needs
 
 record-shape-requires : tie.Need-record-shape-requires
 record-shape-requires c κs = search needs
 
-enum-told-2 : tie.Need-enum-told-2
-enum-told-2 c = search needs
+enum-told : tie.Need-enum-told
+enum-told c = search needs
 
 returns : tie.Need-returns
 unfolding shapedOf shapeOf formMeant
@@ -85,11 +85,11 @@ returns-4 c = rw (← c .before .before .before .before .before .before .before 
 
 returns-5 : tie.Need-returns-5
 unfolding shapedOf shapeOf formMeant
-returns-5 c = rw (← c .before .before .before .form-of .ensures, c .before .enum-told .given .1) (c .record-shape .ensures)
+returns-5 c = rw (← c .before .before .before .before .form-of .ensures, c .before .before .form4 .given .1, record-kind _ _ _ (omega arith) (c .before .before .before .before .form-of .ensures) (c .before .before .form4 .given .1)) (c .record-shape .ensures)
 
 returns-6 : tie.Need-returns-6
 unfolding shapedOf shapeOf formMeant
-returns-6 c = rw (← c .before .before .form-of .ensures, c .enum-told2 .given .1)
+returns-6 c = rw (← c .before .before .form-of .ensures, c .enum-told .given .1)
 
 pub shape-of-spec : {M : Type 1} → statement M
 shape-of-spec =
@@ -111,9 +111,9 @@ shape-of-spec =
     no-part-requires-4
     no-part-requires-5
     body-requires-2
-    enum-told
+    enum-known-form-4
     record-shape-requires
-    enum-told-2
+    enum-told
     returns
     returns-2
     returns-3

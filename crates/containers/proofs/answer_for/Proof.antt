@@ -1,0 +1,32 @@
+use mathlib.Core.Path.{sym, _∙_}
+use native.Mathlib.Omega.{arith}
+use Rattle.containers.proofs.Held.{shown-holds, shown-not}
+use borrow.Author.Needs.{needs}
+use Rattle.containers.proofs.answer_for.Statement.{statement}
+use Rattle.containers.proofs.answer_for.Tie as tie
+
+is-enum-referencing-same-container-struct-requires :
+    tie.Need-is-enum-referencing-same-container-struct-requires
+is-enum-referencing-same-container-struct-requires c κs = search needs
+
+held-in-requires : tie.Need-held-in-requires
+held-in-requires c κs = search needs
+
+add-result : tie.Need-add-result
+add-result c = search needs
+
+returns : tie.Need-returns
+returns c = (shown-holds _ _ _ (sym (c .before .before .if1 .taken) ∙ c .before .before .before .is-enum-referencing-same-container-struct .ensures) (c .held-in .ensures .0), omega arith, omega (arith, c .held-in .ensures .1), c .held-in .ensures .2)
+
+returns-2 : tie.Need-returns-2
+returns-2 c = (shown-not _ _ _ (sym (c .if1 .left) ∙ c .before .is-enum-referencing-same-container-struct .ensures), omega arith, omega arith, c .before .before .before .before .pre .2)
+
+pub answer-for-spec : {M : Type 1} → statement M
+answer-for-spec =
+    tie.close
+    (tie.spec
+    is-enum-referencing-same-container-struct-requires
+    held-in-requires
+    add-result
+    returns
+    returns-2)

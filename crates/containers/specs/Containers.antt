@@ -1,0 +1,44 @@
+-- What is kept of an enum and the names to which its tag refers.
+use Prim.Native.Nat.{ℕ, _+_, _<_}
+use mathlib.Core.Bool.{Bool, true, false, not, cond, _&&_}
+use mathlib.Core.List.{List, [], _∷_}
+use mathlib.Core.Option.{Option, none, some}
+use mathlib.Core.Path.{_≡_}
+use lib.ListN.{length, getD}
+use Rattle.meaning.specs.Limits.{definitionLimit}
+use Rattle.meaning.specs.Lists.{lastIndex, holds}
+use Rattle.meaning.specs.Lookup.{definitionOf, findType}
+use Rattle.meaning.specs.Sizes.{isEnumWithConstantSizeVariants}
+use Rattle.meaning.specs.Tree.{Member, Bundle}
+use Rattle.meaning.specs.Violations.{isEnumReferencingSameContainerStruct, standsBefore, structOf}
+use Rattle.bundle.specs.Definitions.{bundleOf}
+use Rattle.fields.specs.Sought.{sought, lastShown}
+
+-- one more than the index of the last of a struct's fields that is a TypeRef to e, and 0 where there is none
+abbrev pub lastHeld : ℕ → Option (List Member) → ℕ
+lastHeld e none = 0
+lastHeld e (some ms) = lastShown 0 0 (lastIndex (sought true e) ms)
+
+-- the same of the first definition of the name x, if that is a struct, and 0 too where the variants of e are of constant size
+abbrev pub heldIn : Bundle → ℕ → ℕ → ℕ
+heldIn b e x = cond (holds isEnumWithConstantSizeVariants (findType b e)) 0 (lastHeld e (structOf b x))
+
+-- two more than that where some definition of the name x is a struct that holds e, and 1 where none is
+abbrev pub containerShown : Bundle → ℕ → ℕ → ℕ
+containerShown b e x = cond (isEnumReferencingSameContainerStruct b e x) (heldIn b e x + 2) 1
+
+-- what type 1 asks of the enum e and a reference to the field f of the first definition of the name x, if that is a struct
+abbrev pub isBefore : Bundle → ℕ → ℕ → ℕ → Bool
+isBefore b e x f = holds (standsBefore e (f ∷ [])) (structOf b x) && not (holds isEnumWithConstantSizeVariants (findType b e))
+
+-- how an answer for the enum is kept
+abbrev pub markOf : Bool → ℕ
+markOf true = 2
+markOf false = 1
+
+-- `known` has the answers of the enum e, for names by their first definitions, and 0 where one is not known yet; behind them it has whether
+-- the variants of e are of constant size, 1 for no and 2 for yes
+pub record Known (s : List ℕ) (e : ℕ) (known : List ℕ) : Type 0 where
+  pub size : length known ≡ definitionLimit + 1
+  pub each : (i : ℕ) → i < definitionLimit → 0 < getD known i 0 → (x : ℕ) → definitionOf (bundleOf s) x ≡ i → getD known i 0 ≡ containerShown (bundleOf s) e x
+  pub constant : (t : Bool) → getD known definitionLimit 0 ≡ markOf t → t ≡ holds isEnumWithConstantSizeVariants (findType (bundleOf s) e)

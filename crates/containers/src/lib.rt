@@ -1,0 +1,135 @@
+// Whether an enum is in a struct to which its tag refers, and how far behind: one answer is kept for each name that is referred to.
+use fields::Definition;
+use fields::Fields;
+ghost use mathlib.Core.Path.{_≡_};
+ghost use Prim.Native.Nat.{ℕ, _≤_, _<_};
+ghost use lib.ListN.{length};
+ghost use Rattle.meaning.specs.Lists.{holds};
+ghost use Rattle.meaning.specs.Lookup.{findType};
+ghost use Rattle.meaning.specs.Sizes.{isEnumWithConstantSizeVariants};
+ghost use Rattle.bundle.specs.Definitions.{bundleOf, Table};
+ghost use Rattle.field_index.specs.Noted.{Noted};
+ghost use Rattle.containers.specs.Containers.{heldIn, containerShown, isBefore, markOf, Known};
+
+// Answers that are kept: one for each definition's name, and one for the enum.
+pub const KNOWN: usize = bundle::DEFINITIONS + 1;
+
+// How an answer for the enum is kept.
+fn mark_of(holds: bool) -> u16
+    ensures { λ r. ⌜ r ≡ markOf holds ⌝ }
+{
+    if holds { 2 } else { 1 }
+}
+
+// Whether the enum's variants are of constant size; asked once, and then kept.
+fn is_constant(s: &[u8], places: &[u16], count: usize, known: &mut [u16; KNOWN], name: u16) -> bool
+    requires { ⌜ Table (now s) count (now places) × Known (now s) name (now known) ⌝ }
+    ensures { λ r. ⌜ (r ≡ holds isEnumWithConstantSizeVariants (findType (bundleOf (now (s .entry))) name)) × Known (now (s .entry)) name (now (known .exit)) ⌝ }
+{
+    let kept = known[bundle::DEFINITIONS];
+    if kept == 1 {
+        return false;
+    }
+    if kept == 2 {
+        return true;
+    }
+    let constant = fields::has_constant_size_variants(s, places, count, name);
+    known[bundle::DEFINITIONS] = mark_of(constant);
+    constant
+}
+
+// One more than the index of the last field that is a TypeRef to the enum, in the first definition of the name `container`, if that is a
+// struct; 0 where there is none, or where the enum's variants are of constant size.
+fn held_in(
+    s: &[u8],
+    places: &[u16],
+    count: usize,
+    known: &mut [u16; KNOWN],
+    name: u16,
+    container: u16,
+) -> usize
+    requires { ⌜ Table (now s) count (now places) × (length (now s) ≤ 32768) × Known (now s) name (now known) ⌝ }
+    ensures { λ r. ⌜ (r ≡ heldIn (bundleOf (now (s .entry))) name container) × (r ≤ 32768) × Known (now (s .entry)) name (now (known .exit)) ⌝ }
+{
+    if is_constant(s, places, count, known, name) {
+        return 0;
+    }
+    let found = fields::struct_of(s, places, count, container);
+    let Fields::Of(at, n) = found else {
+        return 0;
+    };
+    fields::last_field(s, at, bundle::DEPTH_INSIDE, n, true, name)
+}
+
+// Two more than that, where some definition of the name is a struct with a field that is a TypeRef to the enum; 1 where none is.
+fn answer_for(
+    s: &[u8],
+    places: &[u16],
+    count: usize,
+    known: &mut [u16; KNOWN],
+    name: u16,
+    container: u16,
+) -> usize
+    requires { ⌜ Table (now s) count (now places) × (length (now s) ≤ 32768) × Known (now s) name (now known) ⌝ }
+    ensures { λ r. ⌜ (r ≡ containerShown (bundleOf (now (s .entry))) name container) × (0 < r) × (r ≤ 32770) × Known (now (s .entry)) name (now (known .exit)) ⌝ }
+{
+    if fields::is_enum_referencing_same_container_struct(s, places, count, name, container) {
+        return held_in(s, places, count, known, name, container) + 2;
+    }
+    1
+}
+
+// The same number as a size.
+fn size_of(x: u16) -> usize
+    ensures { λ r. ⌜ r ≡ x ⌝ }
+{
+    x as usize
+}
+
+// The answer for a name. `known` has the answers for the names of the definitions, and 0 where one is not known yet.
+pub fn container_of(
+    s: &[u8],
+    places: &[u16],
+    count: usize,
+    known: &mut [u16; KNOWN],
+    name: u16,
+    container: u16,
+) -> usize
+    requires { ⌜ Table (now s) count (now places) × (length (now s) ≤ 32768) × Known (now s) name (now known) ⌝ }
+    ensures { λ r. ⌜ (r ≡ containerShown (bundleOf (now (s .entry))) name container) × (0 < r) × Known (now (s .entry)) name (now (known .exit)) ⌝ }
+{
+    let i = lookup::definition_of(s, places, count, container);
+    if count <= i {
+        return answer_for(s, places, count, known, name, container);
+    }
+    let kept = known[i];
+    if 0 < kept {
+        return size_of(kept);
+    }
+    let answer = answer_for(s, places, count, known, name, container);
+    known[i] = answer as u16;
+    answer
+}
+
+// Whether in the first definition of the name `container`, if that is a struct the last field that is a TypeRef to the enum stands before the last that is called
+// `field`, and the enum's variants are not of constant size; `held` is what the answer for the name says.
+pub fn stands_before(
+    s: &[u8],
+    places: &[u16],
+    count: usize,
+    held: usize,
+    container: u16,
+    field: u16,
+) -> bool
+    requires { ⌜ Table (now s) count (now places) × Noted (now s) (now places) count ⌝ }
+    ensures { λ r. ⌜ ((e : ℕ) → held ≡ heldIn (bundleOf (now (s .entry))) e container → r ≡ isBefore (bundleOf (now (s .entry))) e container field) ⌝ }
+{
+    if held == 0 {
+        return false;
+    }
+    let found = fields::find_definition(s, places, count, container);
+    let Definition::At(i, _) = found else {
+        return false;
+    };
+    held < field_index::index_of(places, i, true, field)
+}

@@ -1,0 +1,6 @@
+pub mod Noting
+pub mod Walking
+pub mod Shown
+pub mod Widths
+pub mod Structs
+pub mod Order

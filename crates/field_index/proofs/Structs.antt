@@ -1,0 +1,169 @@
+-- The structs are noted one after the other, each behind the parts of those before it.
+--     room-for        there is room for one more part
+--     below-start, -none, -next, -end    the walk over the definitions
+--     table-stays     what is said of the definitions stays
+use Prim.Native.Nat.{ℕ, _+_, _*_, _≤_, _<_}
+use mathlib.Core.Path.{_≡_, refl, sym, ap, _∙_}
+use mathlib.Core.Logic.{by-cases}
+use mathlib.Core.Option.{none}
+use mathlib.Core.List.{List, [], _∷_}
+use native.Mathlib.Omega.{arith}
+use native.Mathlib.Decide.{decLt}
+use types.Run.{OneOf}
+use denote.Enum.Declared.{tagOf}
+use lib.ListN.{length, length-set, length-drop, getD, set, take, drop}
+use lib.Seq.{getD-set-same, getD-set-other, getD-drop}
+use Rattle.meaning.specs.Lookup.{listOf, asStruct}
+use Rattle.meaning.specs.Tree.{Ty, primitive, typeRef, struct, union, enum, array, sizeUnion}
+use Rattle.names.specs.Names.{inserts}
+use Rattle.bundle.specs.Definitions.{typeAt, bundleOf, Table, definitionNames, namesAt, firstsAt, tableAt, buckets}
+use Rattle.bundle.proofs.NameLaws.{table-few}
+use Rattle.bundle.proofs.Parts.{members-none, members-length}
+use Rattle.fields.specs.declared.Shape.{Shape}
+use Rattle.fields.proofs.Shape.{the-type}
+use Rattle.fields.proofs.ShapeLaws.{shape-other}
+use Rattle.fields.specs.Shapes.{StructAt, ShapeOf}
+use Rattle.table.specs.Table.{Within}
+use Rattle.field_index.specs.Noted.{startsAt, partsAt, Part, NotedFor, fieldsOf, fieldsAt, Noted, NotedBelow, Behind}
+use Rattle.field_index.proofs.Noting.{members-same}
+use Rattle.field_index.proofs.Walking.{fields, part-same}
+use Rattle.field_index.proofs.Widths.{place-there, place-next, struct-wide}
+
+-- what is no struct has no fields
+no-fields : (t : Ty) → asStruct t ≡ none → fieldsOf t ≡ []
+no-fields (primitive k) e = refl
+no-fields (typeRef n) e = refl
+no-fields (struct a ms) e = let z : _≡_ {A = ℕ} 0 1 = cc in absurd (omega arith)
+no-fields (union a ms) e = refl
+no-fields (enum a tag ms) e = refl
+no-fields (array a jagged size element) e = refl
+no-fields (sizeUnion a ms) e = refl
+
+pub shape-fields : (at : ℕ) (s : List ℕ) (r : Shape) → OneOf (1 ∷ 2 ∷ 3 ∷ 4 ∷ []) (tagOf the-type r) → ShapeOf 24 s at r → fieldsOf (typeAt 24 s at) ≡ []
+shape-fields at s r o g = no-fields (typeAt 24 s at) (shape-other 24 at s r o g)
+
+pub struct-fields : (at : ℕ) (s : List ℕ) {n : ℕ} → StructAt 24 s at n → fieldsOf (typeAt 24 s at) ≡ fields s (at + 12) n
+struct-fields at s g = rw (g .tree) refl
+
+pub struct-empty : (at : ℕ) (s : List ℕ) {n : ℕ} → StructAt 24 s at n → n ≡ 0 → fieldsOf (typeAt 24 s at) ≡ []
+struct-empty at s {n} g z = struct-fields at s g ∙ ap listOf (members-none 23 0x50 s n (at + 12) z)
+
+pub below-start : {s : List ℕ} (places : List ℕ) → length s ≤ 32768 → 3 * partsAt + 5 * length s ≤ 3 * length places → NotedBelow s places 0 partsAt
+below-start places short size =
+    record {
+      noted = record { size = omega arith; each = λ i l. absurd (omega arith) };
+      from = omega arith;
+      room = omega arith;
+      size = size;
+      short = short;
+      parts = λ i l _. absurd (omega arith);
+    }
+
+module _ {s : List ℕ} {count : ℕ} {places : List ℕ} (t : Table s count places) {i : ℕ} (l : i < count) {used : ℕ} (o : NotedBelow s places i used) where
+  pub few : i < 256
+  few = omega (arith, t .count, t .placed .room)
+
+  pub used-small : (used < 65536) × (used ≤ length places)
+  used-small = (omega (arith, o .room, o .short, place-there t l), omega (arith, o .room, o .size, place-there t l))
+
+  pub room-for : {n : ℕ} → StructAt 24 s (getD places i 0) n → (n < 65535) × (used + 2 + 5 * n ≤ length places)
+  room-for g = let h = struct-wide t l g in (omega (arith, h .1, o .short), omega (arith, h .1, o .room, o .size))
+
+  -- the places before those used stay, but for where the part of definition i starts
+  module _ (u : List ℕ) (long : length u ≡ length places) (same : (j : ℕ) → j < used → (j ≡ startsAt + i → ⊥) → getD u j 0 ≡ getD places j 0) where
+    below : (j : ℕ) → j < startsAt → getD u j 0 ≡ getD places j 0
+    below j c = same j (omega (arith, o .from)) (λ z. omega (arith, z))
+
+    fields-stay : (j : ℕ) → j < startsAt → fieldsAt s u j ≡ fieldsAt s places j
+    fields-stay j c = ap (λ a. fieldsOf (typeAt 24 s a)) (below j c)
+
+    kept : (j : ℕ) → j < i → NotedFor (fieldsAt s u j) u (getD u (startsAt + j) 0)
+    kept j c =
+        rw (fields-stay j (omega (arith, few)), same (startsAt + j) (omega (arith, few, o .from)) (λ z. omega (arith, z)))
+        (record {
+          none = o .noted .each j c .none;
+          part = λ a.
+              let q = o .parts j c a in
+              part-same u (λ k b d. same k (omega (arith, q .1)) (λ z. omega (arith, z, few, q .0))) (omega (arith, long)) (o .noted .each j c .part a);
+        })
+
+    -- the fields of definition i are noted up to a place
+    pub below-next : {used′ : ℕ} → NotedFor (fieldsAt s places i) u (getD u (startsAt + i) 0) → used ≤ used′ → 3 * used′ ≤ 3 * partsAt + 5 * getD places (i + 1) 0
+        → (0 < getD u (startsAt + i) 0 → (partsAt ≤ getD u (startsAt + i) 0) × (getD u (startsAt + i) 0 + 2 + 5 * length (fieldsAt s places i) ≤ used′))
+        → NotedBelow s u (i + 1) used′ × Behind places u
+    below-next {used′} here more room part = (
+      record {
+        noted = record {
+          size = omega (arith, long, o .noted .size);
+          each = λ j c.
+              by-cases (decLt j i) (kept j)
+              (λ (n : ¬ (j < i)). let z : j ≡ i = omega arith in rw (z, fields-stay i (omega (arith, few))) here);
+        };
+        from = omega (arith, o .from);
+        room = omega (arith, room, below (i + 1) (omega (arith, few)));
+        size = omega (arith, long, o .size);
+        short = o .short;
+        parts = λ j c.
+            by-cases (decLt j i)
+            (λ (b : j < i). λ a.
+            let e = same (startsAt + j) (omega (arith, few, o .from)) (λ z. omega (arith, z)) in
+            let q = o .parts j b (omega (arith, a, e)) in
+            (omega (arith, q .0, e), rw (fields-stay j (omega (arith, few))) (omega (arith, q .1, e))))
+            (λ (b : ¬ (j < i)). let z : j ≡ i = omega arith in rw (z, fields-stay i (omega (arith, few))) part);
+      },
+      record { size = long; same = below },
+    )
+
+  -- the definition has no fields
+  pub below-none : fieldsAt s places i ≡ [] → NotedBelow s (set places (startsAt + i) 0) (i + 1) used × Behind places (set places (startsAt + i) 0)
+  below-none e =
+      let there : startsAt + i < length places = omega (arith, few, o .noted .size) in
+      let here : getD (set places (startsAt + i) 0) (startsAt + i) 0 ≡ 0 = getD-set-same places (startsAt + i) 0 0 there in
+      below-next (set places (startsAt + i) 0) (length-set places (startsAt + i) 0) (λ j c ne. getD-set-other places (startsAt + i) j 0 0 ne)
+      (rw here (record { none = λ _. e; part = λ c. absurd (omega arith) }))
+      (omega arith) (omega (arith, o .room, place-next t l)) (λ c. absurd (omega (arith, here, c)))
+
+  -- it is a struct with n fields, noted behind the other parts
+  pub below-struct : {n : ℕ} {u : List ℕ} → StructAt 24 s (getD places i 0) n → Part (fields s (getD places i 0 + 12) n) u used
+      → Within used (used + 2 + 5 * n) (set (set places (startsAt + i) 0) (startsAt + i) used) u → NotedBelow s u (i + 1) (used + 2 + 5 * n) × Behind places u
+  below-struct {n} {u} g p w =
+      let k = startsAt + i in
+      let there : k < length places = omega (arith, few, o .noted .size) in
+      let long : length u ≡ length places = w .size ∙ length-set (set places k 0) k used ∙ length-set places k 0 in
+      let here : getD u k 0 ≡ used = w .before k (omega (arith, few, o .from)) ∙ getD-set-same (set places k 0) k used 0 (omega (arith, there, length-set places k 0)) in
+      let is : fieldsAt s places i ≡ fields s (getD places i 0 + 12) n = struct-fields (getD places i 0) s g in
+      let count : length (fields s (getD places i 0 + 12) n) ≡ n = members-length 23 0x50 s n (getD places i 0 + 12) (g .reads) in
+      below-next u long
+      (λ j c ne. w .before j c ∙ getD-set-other (set places k 0) k j used 0 ne ∙ getD-set-other places k j 0 0 ne)
+      (rw (here, is) (record { none = λ z. absurd (omega (arith, z, o .from)); part = λ _. p }))
+      (omega arith) (omega (arith, o .room, struct-wide t l g .0))
+      (λ _. rw (here, is, count) (o .from, omega arith))
+
+pub below-end : {s places : List ℕ} {n i used : ℕ} → n ≤ i → NotedBelow s places i used → Noted s places n
+below-end l o = record { size = o .noted .size; each = λ i c. o .noted .each i (omega arith) }
+
+-- what the places of the definitions say stays with them
+pub table-stays : {s : List ℕ} {n : ℕ} {places u : List ℕ} → Table s n places → Behind places u → Table s n u
+table-stays {s} {n} {places} {u} t b =
+    record {
+      count = t .count;
+      placed = record {
+        room = t .placed .room;
+        each = λ i l. rw (b .same i (omega (arith, t .placed .room))) (t .placed .each i l);
+        ends = λ i l. rw (b .same (i + 1) (omega (arith, t .placed .room)), b .same i (omega (arith, t .placed .room))) (t .placed .ends i l);
+      };
+      size = omega (arith, t .size, b .size);
+      noted = rw (b .same namesAt (omega arith))
+          (record {
+            count = t .noted .count;
+            first = λ k l. b .same (firstsAt + k) (omega (arith, table-few t)) ∙ t .noted .first k l;
+            named = record {
+              all = members-same (drop tableAt u) (t .noted .named .all) same (omega (arith, length-drop {A = ℕ} tableAt u, length-drop {A = ℕ} tableAt places, b .size));
+              each = λ k l. same (buckets + 2 * k) (omega arith) (omega arith) ∙ t .noted .named .each k l;
+            };
+          });
+    }
+  where
+    same : (i : ℕ) → 0 ≤ i → i < 0 + buckets + 2 * length (inserts [] (take n (definitionNames (bundleOf s)))) → getD (drop tableAt u) i 0 ≡ getD (drop tableAt places) i 0
+    same i _ l =
+        getD-drop tableAt u i 0 ∙ b .same (tableAt + i) (omega (arith, l, table-few t, t .noted .count)) ∙ sym (getD-drop tableAt places i 0)

@@ -1,0 +1,150 @@
+-- The fields of a struct are noted one after the other.
+--     part-same           a part stays where its places do
+--     noting-start, -next, -end   the walk over the fields
+--     started             what is written before it
+use Prim.Native.Nat.{ℕ, zero, suc, _+_, _-_, _*_, _≤_, _<_}
+use mathlib.Core.Path.{_≡_, refl, sym, ap, subst, _∙_}
+use mathlib.Core.List.{List, [], _∷_}
+use native.Mathlib.Omega.{arith}
+use lib.ListN.{length, length-set, getD, set, drop}
+use lib.Seq.{getD-set-same, getD-set-other}
+use Rattle.meaning.specs.Lookup.{listOf, memberName}
+use Rattle.meaning.specs.ReadType.{readTy, readMembers}
+use Rattle.meaning.specs.Tree.{Member}
+use Rattle.bundle.specs.View.{Reads}
+use Rattle.bundle.specs.Definitions.{membersAt}
+use Rattle.bundle.proofs.Parts.{members-length}
+use Rattle.fields.specs.declared.Field.{Field}
+use Rattle.fields.specs.Shapes.{FieldAt}
+use Rattle.fields.proofs.Walking.{Passing, passing-next, passing-tree}
+use Rattle.table.specs.Table.{Members, Within}
+use Rattle.field_index.specs.Noted.{nameAt, tableAt, NotedTo, Part}
+use Rattle.field_index.proofs.Noting.{members-same, OneMore}
+
+-- places of the part at a from its names on hold the same
+noted-same : {ms : List Member} {t : List ℕ} (u : List ℕ) {a n d k : ℕ} → d ≤ n → ((i : ℕ) → a + 2 ≤ i → i < a + 2 + 5 * n → getD u i 0 ≡ getD t i 0)
+    → length t ≤ length u → NotedTo ms t a n d k → NotedTo ms u a n d k
+noted-same {t = t} u {a} {n} {d} l same long o =
+    record {
+      table = members-same u (o .table) (λ i c m. same i (omega arith) (omega arith)) long;
+      few = o .few;
+      all = λ i c. let h = o .all i c in (h .0, h .1, name (h .0) (h .1) ∙ h .2);
+      firsts = λ r c. rw (name r c, same (a + 2 + r) (omega arith) (omega arith)) (o .firsts r c);
+      lasts = λ r c. rw (name r c, same (a + 2 + n + r) (omega arith) (omega arith)) (o .lasts r c);
+    }
+  where
+    name : (r : ℕ) → r < d → getD u (tableAt a n + n + 2 * r) 0 ≡ getD t (tableAt a n + n + 2 * r) 0
+    name r c = same (tableAt a n + n + 2 * r) (omega arith) (omega arith)
+
+pub part-same : {ms : List Member} {t : List ℕ} (u : List ℕ) {a : ℕ} → ((i : ℕ) → a ≤ i → i < a + 2 + 5 * length ms → getD u i 0 ≡ getD t i 0)
+    → length t ≤ length u → Part ms t a → Part ms u a
+part-same {ms} {t} u {a} same long p =
+    record {
+      some = p .some;
+      count = same a (omega arith) (omega arith) ∙ p .count;
+      room = omega (arith, p .room);
+      all =
+          rw (same (a + 1) (omega arith) (omega arith))
+          (noted-same u (p .all .few) (λ i c m. same i (omega arith) m) long (p .all));
+    }
+
+-- the name of the first of the fields left, and those behind it
+left-name : (ms : List Member) (k : ℕ) {m : Member} {rest : List Member} → m ∷ rest ≡ drop k ms → (nameAt ms k ≡ memberName m) × (rest ≡ drop (k + 1) ms)
+left-name [] zero e = let z : _≡_ {A = ℕ} 0 1 = cc in absurd (omega arith)
+left-name [] (suc k) e = let z : _≡_ {A = ℕ} 0 1 = cc in absurd (omega arith)
+left-name (x ∷ xs) zero e = (cc, cc)
+left-name (x ∷ xs) (suc k) e =
+    let h = left-name xs k e in
+    let z : suc k + 1 ≡ suc (k + 1) = omega arith in
+    (h .0, h .1 ∙ ap (λ i. drop i (x ∷ xs)) (sym z))
+
+-- the fields of a struct whose fields stand at a position
+abbrev pub fields : List ℕ → ℕ → ℕ → List Member
+fields s at n = listOf (membersAt 23 0x50 n s at)
+
+-- k of the n fields at `at` are noted in the part at a, and the others stand at `next`
+pub record Noting (s : List ℕ) (at n : ℕ) (notes₀ : List ℕ) (a : ℕ) (notes : List ℕ) (next d k : ℕ) : Type 0 where
+  pub bound : k ≤ n
+  pub pass : Passing 23 s n (n - k) next
+  pub rest : fields s next (n - k) ≡ drop k (fields s at n)
+  pub noted : NotedTo (fields s at n) notes a n d k
+  pub count : getD notes a 0 ≡ n
+  pub only : Within a (a + 2 + 5 * n) notes₀ notes
+
+module _ (n : ℕ) (t : List ℕ) (a : ℕ) {u : List ℕ} (room : a + 2 + 5 * n ≤ length t) (w : Within (tableAt a n) (tableAt a n + n) (set t a n) u) where
+  pub noting-start : {s : List ℕ} (at : ℕ) → Reads (readMembers (readTy 23) 0x50 n s at) → Members u (tableAt a n) n 0 → Noting s at n u a u at 0 0
+  noting-start at reads m =
+      record {
+        bound = omega arith;
+        pass = rw (all n) (record { bound = omega arith; reads = reads });
+        rest = rw (all n) refl;
+        noted = record {
+          table = m;
+          few = omega arith;
+          all = λ i l. absurd (omega arith);
+          firsts = λ r l. absurd (omega arith);
+          lasts = λ r l. absurd (omega arith);
+        };
+        count = w .before a (omega arith) ∙ getD-set-same t a n 0 (omega arith);
+        only = record { size = refl; before = λ i l. refl; behind = λ i l. refl };
+      }
+    where
+      all : (n : ℕ) → n - 0 ≡ n
+      all n = omega arith
+
+  pub started : Within a (a + 2 + 5 * n) t u
+  started =
+      record {
+        size = w .size ∙ length-set t a n;
+        before = λ i l. w .before i (omega arith) ∙ getD-set-other t a i n 0 (λ z. omega (arith, z));
+        behind = λ i l. w .behind i (omega arith) ∙ getD-set-other t a i n 0 (λ z. omega (arith, z));
+      }
+
+module _ {s : List ℕ} {at n : ℕ} {t : List ℕ} {a : ℕ} {u : List ℕ} {next d k : ℕ} (o : Noting s at n t a u next d k) where
+  pub noting-name : k < n → {f : Field} → FieldAt 23 s next f → nameAt (fields s at n) k ≡ f .name
+  noting-name l g = left-name (fields s at n) k (sym (ap listOf (passing-tree (o .pass) (omega arith) g)) ∙ o .rest) .0
+
+  pub noting-next : k < n → {f : Field} → FieldAt 23 s next f → {v : List ℕ} {D : ℕ} → OneMore u v a n d k (f .name) D → Noting s at n t a v (f .next) D (k + 1)
+  noting-next l {f} g m =
+      record {
+        bound = omega arith;
+        pass = subst (λ left. Passing 23 s n left (f .next)) (one-less k n) (passing-next (o .pass) (omega arith) g);
+        rest =
+            ap (fields s (f .next)) (sym (one-less k n))
+            ∙ left-name (fields s at n) k (sym (ap listOf (passing-tree (o .pass) (omega arith) g)) ∙ o .rest) .1;
+        noted = m .0 (fields s at n) (o .noted) (noting-name l g);
+        count = m .1 .before a (omega arith) ∙ o .count;
+        only = record {
+          size = m .1 .size ∙ o .only .size;
+          before = λ i c. m .1 .before i (omega arith) ∙ o .only .before i c;
+          behind = λ i c. m .1 .behind i (omega arith) ∙ o .only .behind i c;
+        };
+      }
+    where
+      one-less : (k n : ℕ) → n - k - 1 ≡ n - (k + 1)
+      one-less k n = omega arith
+
+  pub noting-end : {t₀ : List ℕ} → n ≤ k → 0 < n → a + 2 + 5 * n ≤ length t₀ → Reads (readMembers (readTy 23) 0x50 n s at) → Within a (a + 2 + 5 * n) t₀ t
+      → Part (fields s at n) (set u (a + 1) d) a × Within a (a + 2 + 5 * n) t₀ (set u (a + 1) d)
+  noting-end l some room reads begun =
+      let e : length (fields s at n) ≡ n = members-length 23 0x50 s n at reads in
+      let k-n : k ≡ n = omega (arith, o .bound) in
+      let long = length-set u (a + 1) d in (
+        record {
+          some = omega (arith, e);
+          count = other a (λ z. omega (arith, z)) ∙ o .count ∙ sym e;
+          room = omega (arith, e, long, o .only .size, begun .size);
+          all =
+              rw (e, getD-set-same u (a + 1) d 0 (omega (arith, o .only .size, begun .size)))
+              (subst (NotedTo (fields s at n) (set u (a + 1) d) a n d) k-n
+              (noted-same (set u (a + 1) d) (omega (arith, o .noted .few, o .bound)) (λ i c m. other i (λ z. omega (arith, z))) (omega (arith, long)) (o .noted)));
+        },
+        record {
+          size = long ∙ o .only .size ∙ begun .size;
+          before = λ i c. other i (λ z. omega (arith, z)) ∙ o .only .before i c ∙ begun .before i c;
+          behind = λ i c. other i (λ z. omega (arith, z)) ∙ o .only .behind i c ∙ begun .behind i c;
+        },
+      )
+    where
+      other : (i : ℕ) → (i ≡ a + 1 → ⊥) → getD (set u (a + 1) d) i 0 ≡ getD u i 0
+      other i ne = getD-set-other u (a + 1) i d 0 ne

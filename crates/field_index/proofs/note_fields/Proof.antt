@@ -1,0 +1,107 @@
+-- `field_index::note_fields` meets its contract: the invariant is that of `Walking`.
+use Prim.Native.Nat.{_+_, _-_}
+use mathlib.Core.Path.{_∙_}
+use native.Mathlib.Omega.{arith}
+use lib.ListN.{length-set}
+use borrow.Author.Needs.{needs}
+use Rattle.fields.proofs.Walking.{field-reads}
+use Rattle.field_index.proofs.Walking.{Noting, noting-start, started, noting-name, noting-next, noting-end}
+use Rattle.field_index.proofs.note_fields.Statement.{statement}
+use Rattle.field_index.proofs.note_fields.Tie as tie
+
+abbrev Inv-loop : tie.InvT-loop
+Inv-loop s at n notes₀ a form next₀ d₀ k₀ notes next d k = Noting s at n notes₀ a notes next d k
+
+abbrev μ-loop : tie.MeasureT-loop
+μ-loop s at n notes₀ a form next₀ d₀ k₀ notes next d k = n - k
+
+cast-notes : tie.Need-cast-notes Inv-loop μ-loop
+cast-notes c = search needs
+
+mul-notes : tie.Need-mul-notes Inv-loop μ-loop
+mul-notes c = search needs
+
+slice-write-notes : tie.Need-slice-write-notes Inv-loop μ-loop
+slice-write-notes c = search needs
+
+add-empty : tie.Need-add-empty Inv-loop μ-loop
+add-empty c = search needs
+
+mul-empty : tie.Need-mul-empty Inv-loop μ-loop
+mul-empty c = search needs
+
+add-empty-2 : tie.Need-add-empty-2 Inv-loop μ-loop
+add-empty-2 c = search needs
+
+empty-requires : tie.Need-empty-requires Inv-loop μ-loop
+empty-requires c κs = (omega arith, simp length-set (omega arith))
+
+form-of-requires : tie.Need-form-of-requires Inv-loop μ-loop
+form-of-requires c κs = search needs
+
+loop-holds : tie.Need-loop-holds Inv-loop μ-loop
+loop-holds c = let a = c .before .before .before .before .before .before .before in let e = c .before .before .before .empty .ensures in
+    noting-start (a .args .n) (a .args .notes .now) (a .args .a) (a .pre .1 .2) (e .1) (a .args .at) (a .pre .0) (e .0)
+
+field-at-requires : tie.Need-field-at-requires Inv-loop μ-loop
+field-at-requires c κs = (c .before .before .form-of .ensures, field-reads (c .before .loop .inv .pass) (omega arith))
+
+note-name-requires : tie.Need-note-name-requires Inv-loop μ-loop
+note-name-requires c κs = let a = c .before .before .before .before .before .before .before .before .before .before .before in let l = c .before .before .before .loop in
+    ((omega arith, a .pre .1 .1, omega (arith, l .inv .only .size, c .before .before .before .before .before .before .before .empty .ensures .1 .size, length-set (a .args .notes .now) (a .args .a) (a .args .n))), (_, l .inv .noted, noting-name (l .inv) (omega arith) (c .before .field-at .ensures)))
+
+add-k : tie.Need-add-k Inv-loop μ-loop
+add-k c = search needs
+
+loop-less : tie.Need-loop-less Inv-loop μ-loop
+loop-less c = search needs
+
+loop-again : tie.Need-loop-again Inv-loop μ-loop
+loop-again c = noting-next (c .before .before .before .before .before .before .loop .inv) (omega arith) (c .before .before .before .before .field-at .ensures) (c .before .before .note-name .ensures)
+
+cast-notes-2 : tie.Need-cast-notes-2 Inv-loop μ-loop
+cast-notes-2 c = search needs
+
+add-notes : tie.Need-add-notes Inv-loop μ-loop
+add-notes c = search needs
+
+mul-notes-2 : tie.Need-mul-notes-2 Inv-loop μ-loop
+mul-notes-2 c = search needs
+
+slice-write-notes-2 : tie.Need-slice-write-notes-2 Inv-loop μ-loop
+slice-write-notes-2 c = search needs
+
+same-length : tie.Need-same-length Inv-loop μ-loop
+same-length c = let a = c .before .before .before .before .before .before .before .before .before in let e = c .before .before .before .before .before .empty .ensures in
+    length-set (c .before .loop .notes) (a .args .a + 1) (c .before .loop .d) ∙ c .before .loop .inv .only .size ∙ started (a .args .n) (a .args .notes .now) (a .args .a) (a .pre .1 .2) (e .1) .size
+
+returns : tie.Need-returns Inv-loop μ-loop
+returns c = let a = c .before .before .before .before .before .before .before .before .before in let e = c .before .before .before .before .before .empty .ensures in
+    noting-end (c .before .loop .inv) (omega arith) (a .pre .1 .0) (a .pre .1 .2) (a .pre .0) (started (a .args .n) (a .args .notes .now) (a .args .a) (a .pre .1 .2) (e .1))
+
+pub note-fields-spec : {M : Type 1} → statement M
+note-fields-spec =
+    tie.close
+    (tie.spec
+    Inv-loop
+    μ-loop
+    cast-notes
+    mul-notes
+    slice-write-notes
+    add-empty
+    mul-empty
+    add-empty-2
+    empty-requires
+    form-of-requires
+    loop-holds
+    field-at-requires
+    note-name-requires
+    add-k
+    loop-less
+    loop-again
+    cast-notes-2
+    add-notes
+    mul-notes-2
+    slice-write-notes-2
+    same-length
+    returns)

@@ -1,0 +1,153 @@
+// The fields of every struct by their names: noted once for a bundle, behind the places of its definitions, and then looked up.
+// Behind those places stands for each definition where its part starts, and 0 where it is no struct or has no field. A part has the count
+// of fields and the count of their names, then for each name the index of the first field that has it, then for each the index of the
+// last, then a table of the names with as many buckets as there are fields.
+use fields::Definition;
+use fields::Shape;
+ghost use mathlib.Core.Path.{_≡_};
+ghost use mathlib.Core.Bool.{cond};
+ghost use mathlib.Core.List.{List, [], _∷_};
+ghost use Prim.Native.Nat.{ℕ, _+_, _*_, _≤_, _<_};
+ghost use lib.ListN.{length, getD};
+ghost use Rattle.meaning.specs.Lists.{holds};
+ghost use Rattle.meaning.specs.Lookup.{listOf};
+ghost use Rattle.meaning.specs.Tree.{Member};
+ghost use Rattle.meaning.specs.ReadType.{readTy, readMembers};
+ghost use Rattle.meaning.specs.Violations.{structOf, standsAfter};
+ghost use Rattle.bundle.specs.View.{Reads};
+ghost use Rattle.bundle.specs.Definitions.{membersAt, bundleOf, Table};
+ghost use Rattle.table.specs.Table.{Members, Within};
+ghost use Rattle.field_index.specs.Noted.{nameAt, tableAt, startsAt, partsAt, NotedTo, Part, NotedFor, indexShown, Noted, NotedBelow, Behind};
+
+// Where the parts start.
+pub const PARTS_AT: usize = bundle::PLACES + bundle::DEFINITIONS;
+
+// Notes that field `k` of the `n` has the name `x`, in the part at `a` with `d` names. Returns how many names there are then.
+fn note_name(notes: &mut [u16], a: usize, n: usize, d: usize, k: usize, x: u16) -> usize
+    requires { ⌜ (k < n) × (n < 65535) × (a + 2 + 5 * n ≤ length (now notes)) ⌝ }
+    requires { ⌜ ((ms : List Member) × NotedTo ms (now notes) a n d k × (nameAt ms k ≡ x)) ⌝ }
+    ensures { λ r. ⌜ ((ms : List Member) → NotedTo ms (now (notes .entry)) a n d k → nameAt ms k ≡ x → NotedTo ms (now (notes .exit)) a n r (k + 1)) × Within (a + 2) (a + 2 + 5 * n) (now (notes .entry)) (now (notes .exit)) ⌝ }
+{
+    let r = table::enter(notes, a + 2 + 2 * n, n, d, x);
+    notes[a + 2 + n + r] = k as u16;
+    if r < d {
+        return d;
+    }
+    notes[a + 2 + r] = k as u16;
+    d + 1
+}
+
+// Notes the `n` fields that were read at `at` in the part at `a`.
+fn note_fields(s: &[u8], at: usize, n: usize, notes: &mut [u16], a: usize)
+    requires { ⌜ Reads (readMembers (readTy 23) 0x50 n (now s) at) ⌝ }
+    requires { ⌜ (0 < n) × (n < 65535) × (a + 2 + 5 * n ≤ length (now notes)) ⌝ }
+    ensures { λ _. ⌜ Part (listOf (membersAt 23 0x50 n (now (s .entry)) at)) (now (notes .exit)) a × Within a (a + 2 + 5 * n) (now (notes .entry)) (now (notes .exit)) ⌝ }
+{
+    notes[a] = n as u16;
+    table::empty(notes, a + 2 + 2 * n, n);
+    let form = bundle::form_of(0x50);
+    let mut next = at;
+    let mut d = 0;
+    let mut k = 0;
+    while k < n {
+        let field = fields::field_at(s, next, bundle::DEPTH_INSIDE, form);
+        d = note_name(notes, a, n, d, k, field.name);
+        next = field.next;
+        k += 1;
+    }
+    notes[a + 1] = d as u16;
+}
+
+// Notes the fields of definition `i`, if it is a struct with fields, behind the first `used` places. Returns how many are used then.
+fn note_struct(s: &[u8], places: &mut [u16], i: usize, used: usize) -> usize
+    requires { ⌜ ((count : ℕ) × Table (now s) count (now places) × (i < count)) × NotedBelow (now s) (now places) i used ⌝ }
+    ensures { λ r. ⌜ NotedBelow (now (s .entry)) (now (places .exit)) (i + 1) r × Behind (now (places .entry)) (now (places .exit)) ⌝ }
+{
+    let at = places[i] as usize;
+    let shape = fields::shape_at(s, at, bundle::DEPTH_LIMIT);
+    places[bundle::PLACES + i] = 0;
+    let Shape::Struct(n) = shape else {
+        return used;
+    };
+    if n == 0 {
+        return used;
+    }
+    places[bundle::PLACES + i] = used as u16;
+    note_fields(s, at + 12, n, places, used);
+    used + 2 + 5 * n
+}
+
+// Notes the fields of every struct. What stands behind the places of the definitions before is free.
+pub fn note_structs(s: &[u8], places: &mut [u16], count: usize)
+    requires { ⌜ Table (now s) count (now places) × (length (now s) ≤ 32768) ⌝ }
+    requires { ⌜ 3 * partsAt + 5 * length (now s) ≤ 3 * length (now places) ⌝ }
+    ensures { λ _. ⌜ Table (now (s .entry)) count (now (places .exit)) × Noted (now (s .entry)) (now (places .exit)) count ⌝ }
+{
+    let mut used = PARTS_AT;
+    let mut i = 0;
+    while i < count {
+        used = note_struct(s, places, i, used);
+        i += 1;
+    }
+}
+
+// What the part at `a` of `n` fields says of the name at place `r`: one more than the index of the first field that has it, or of the last
+// where `last` is set.
+fn index_at(notes: &[u16], a: usize, n: usize, r: usize, last: bool) -> usize
+    requires { ⌜ (a + 2 + 2 * n ≤ length (now notes)) × (r < n) ⌝ }
+    ensures { λ k. ⌜ k ≡ getD (now (notes .entry)) (cond last (a + 2 + n + r) (a + 2 + r)) 0 + 1 ⌝ }
+{
+    if last {
+        return notes[a + 2 + n + r] as usize + 1;
+    }
+    notes[a + 2 + r] as usize + 1
+}
+
+// The same of the name `x`, and 0 where no field has it.
+fn index_in(notes: &[u16], a: usize, n: usize, d: usize, last: bool, x: u16) -> usize
+    requires { ⌜ (a + 2 + 5 * n ≤ length (now notes)) × (d ≤ n) × Members (now notes) (tableAt a n) n d ⌝ }
+    ensures { λ r. ⌜ ((ms : List Member) → Part ms (now (notes .entry)) a → getD (now (notes .entry)) a 0 ≡ n → getD (now (notes .entry)) (a + 1) 0 ≡ d → r ≡ indexShown last x ms) ⌝ }
+{
+    let r = table::place_of(notes, a + 2 + 2 * n, n, d, x);
+    if r == d {
+        return 0;
+    }
+    index_at(notes, a, n, r, last)
+}
+
+// The same of definition `i`.
+pub fn index_of(places: &[u16], i: usize, last: bool, x: u16) -> usize
+    requires { ⌜ (startsAt + i < length (now places)) × ((ms : List Member) × NotedFor ms (now places) (getD (now places) (startsAt + i) 0)) ⌝ }
+    ensures { λ r. ⌜ ((ms : List Member) → NotedFor ms (now (places .entry)) (getD (now (places .entry)) (startsAt + i) 0) → r ≡ indexShown last x ms) ⌝ }
+{
+    let a = places[bundle::PLACES + i] as usize;
+    if a == 0 {
+        return 0;
+    }
+    let n = places[a] as usize;
+    let d = places[a + 1] as usize;
+    index_in(places, a, n, d, last, x)
+}
+
+// Whether in the first definition of the name `container`, if that is a struct the first field that is called `field` stands after the index `j`.
+pub fn stands_after(
+    s: &[u8],
+    places: &[u16],
+    count: usize,
+    container: u16,
+    field: u16,
+    j: usize,
+) -> bool
+    requires { ⌜ Table (now s) count (now places) × Noted (now s) (now places) count ⌝ }
+    ensures { λ r. ⌜ r ≡ holds (standsAfter j (field ∷ [])) (structOf (bundleOf (now (s .entry))) container) ⌝ }
+{
+    let found = fields::find_definition(s, places, count, container);
+    let Definition::At(i, _) = found else {
+        return false;
+    };
+    let first = index_of(places, i, false, field);
+    if first == 0 {
+        return false;
+    }
+    j < first - 1
+}

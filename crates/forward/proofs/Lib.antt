@@ -1,0 +1,4 @@
+pub mod ArrayLaws
+pub mod FieldChecks
+pub mod LaterFields
+pub mod SeenReferences

@@ -1,0 +1,4 @@
+pub mod ScanLaws
+pub mod Flat
+pub mod PartLaws
+pub mod Walks

@@ -1,0 +1,5 @@
+pub mod Breadth
+pub mod Distances
+pub mod Turns
+pub mod Reading
+pub mod Lists

@@ -1,0 +1,3 @@
+mod CountLaws
+mod HeadTestLaws
+mod TestLaws

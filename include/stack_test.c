@@ -1,0 +1,355 @@
+/* How much stack the calls take. Each call is made on bundles that go deep, in a thread that has STACK_BYTES of stack left, which is
+ * LAYOUT_STACK_BYTES unless the build says otherwise.
+ * Usage: stack_test           every call with exactly that stack; a call that needs more ends the test with exit code 1
+ *        stack_test measure   the most that each call took, and on which bundle
+ * The deepest bundles are lines of definitions, each leading to the next from deep inside its type. They differ in what the
+ * definitions are, what is inside them, how deep, what stands first and so asks about them, and whether there are edges. */
+#define _GNU_SOURCE
+#include "layout.h"
+#include <pthread.h>
+#include <signal.h>
+#include <stdio.h>
+#include <stdlib.h>
+#include <string.h>
+#include <sys/mman.h>
+#include <unistd.h>
+
+#ifndef STACK_BYTES
+#define STACK_BYTES LAYOUT_STACK_BYTES
+#endif
+
+#define REGION (2u << 20)
+#define GUARD 65536u
+#define PAINT 0xA5
+#define REPORT_ROOM (1u << 20)
+
+enum { ARRAY, STRUCT, UNION, ENUM, SIZED_UNION, KINDS };
+static const char *const kind_names[] = {"array", "struct", "union", "enum", "sized union"};
+
+/* What the first definition is. */
+enum { NOTHING, FIXED_ARRAY, JAGGED_ARRAY, TAGGED, HOLDER, STARTS };
+static const char *const start_names[] = {"nothing first", "an array first", "a jagged array first", "an enum first",
+                                          "a struct first"};
+
+static uint8_t bytes[LAYOUT_BYTE_LIMIT + 1024];
+static size_t length;
+
+static void put(unsigned value, int width) {
+  while (width-- > 0) {
+    bytes[length++] = (uint8_t)value;
+    value >>= 8;
+  }
+}
+
+static void put_type_ref(unsigned name) {
+  put(0x40, 1);
+  put(name, 2);
+}
+
+/* A kind with its attributes, all 0. */
+static void put_head(unsigned kind) {
+  put(kind, 1);
+  put(0, 4);
+  put(0, 4);
+  put(0, 1);
+}
+
+/* A member's record; `value` says whether one stands behind the name. */
+static void put_member(unsigned kind, unsigned name, int value) {
+  put(kind, 1);
+  put(name, 2);
+  if (value) {
+    put(0, 4);
+    put(0, 4);
+  }
+}
+
+/* All of a type that stands before the one type inside it. */
+static void put_around(int kind) {
+  static const uint8_t codes[] = {0x44, 0x41, 0x42, 0x43, 0x45};
+  static const uint8_t members[] = {0, 0x50, 0x51, 0x52, 0x53};
+  put_head(codes[kind]);
+  put(kind == ARRAY ? 0 : 1, kind == ARRAY ? 1 : 2);
+  if (kind == ARRAY || kind == ENUM) {
+    put(0x04, 1);
+    put(3, 1);
+  }
+  if (kind != ARRAY) {
+    put_member(members[kind], 7, kind == ENUM || kind == SIZED_UNION);
+  }
+}
+
+static void put_reference(unsigned owner, unsigned field) {
+  put(0x0A, 1);
+  put(owner, 2);
+  put(field, 2);
+}
+
+/* The first definitions, of which the last leads to `next`; how many they are. */
+static unsigned put_start(int start, unsigned next) {
+  if (start == NOTHING) {
+    return 0;
+  }
+  put(0x61, 1);
+  put(1, 2);
+  if (start == FIXED_ARRAY || start == JAGGED_ARRAY) {
+    put_head(0x44);
+    put(start == JAGGED_ARRAY, 1);
+    put(0x04, 1);
+    put(3, 1);
+    put_type_ref(next);
+    return 1;
+  }
+  put_head(start == TAGGED ? 0x43 : 0x41);
+  if (start == TAGGED) {
+    put(1, 2);
+    put_reference(900, 1);
+    put_member(0x52, 7, 1);
+    put_type_ref(next);
+    return 1;
+  }
+  /* A struct whose first field leads to a struct that refers to the second, behind what leads on. */
+  put(2, 2);
+  put_member(0x50, 1, 0);
+  put_type_ref(2);
+  put_member(0x50, 2, 0);
+  put(0x30, 1);
+  put(0x61, 1);
+  put(2, 2);
+  put_head(0x41);
+  put(2, 2);
+  put_member(0x50, 1, 0);
+  put_type_ref(next);
+  put_member(0x50, 2, 0);
+  put_head(0x44);
+  put(0, 1);
+  put_reference(1, 2);
+  put(0x30, 1);
+  return 2;
+}
+
+/* What differs between the bundles. */
+struct shape {
+  int start;
+  int outside;
+  int inside;
+  int levels;
+  unsigned edges;
+  size_t limit;
+};
+
+/* The bytes of one definition of a line. */
+static void put_definition(const struct shape *shape, unsigned name) {
+  int level;
+  put(0x61, 1);
+  put(name, 2);
+  put_around(shape->outside);
+  for (level = 1; level < shape->levels; level++) {
+    put_around(shape->inside);
+  }
+  put_type_ref(name + 1);
+}
+
+/* A line of as many definitions as there can be; the last leads to a name without definition. */
+static void make_bundle(const struct shape *shape) {
+  unsigned definitions, edge;
+  size_t before = 0;
+  length = 0;
+  put(0x60, 1);
+  put(0, 2);
+  put(shape->edges, 2);
+  put(0, 2);
+  definitions = put_start(shape->start, 10);
+  while (definitions < LAYOUT_DEFINITION_LIMIT) {
+    before = length;
+    put_definition(shape, 10 + definitions - (shape->start == NOTHING ? 0 : shape->start == HOLDER ? 2 : 1));
+    if (length + 6 * shape->edges > shape->limit) {
+      length = before;
+      break;
+    }
+    definitions++;
+  }
+  for (edge = 0; edge < shape->edges; edge++) {
+    put(0x62, 1);
+    put(edge == 0 ? 900 : 1000 + edge, 2);
+    put(edge + 1 == shape->edges ? 1 : 1001 + edge, 2);
+    put(0, 1);
+  }
+  bytes[1] = (uint8_t)definitions;
+  bytes[2] = (uint8_t)(definitions >> 8);
+}
+
+enum { ACCEPT, REPORT, RENUMBER, CHAIN, CALLS };
+static const char *const call_names[] = {"accept", "report", "renumber", "chain"};
+
+static uint8_t *region;
+static uint8_t *out;
+static uint16_t list[1025];
+static int call;
+static int measuring;
+static uint8_t answer;
+static char where[256];
+
+static void make_call(void) {
+  size_t written = 0;
+  switch (call) {
+  case ACCEPT:
+    answer = layout_accept(bytes, length);
+    break;
+  case REPORT:
+    answer = layout_report(bytes, length, out, REPORT_ROOM, &written);
+    break;
+  case RENUMBER:
+    answer = layout_renumber(bytes, length, out, REPORT_ROOM, &written);
+    break;
+  default:
+    answer = layout_chain(bytes, length, 900, 1, list, 1025, &written);
+  }
+}
+
+/* Makes the call where so many bytes of the stack are left over. They are in use until the call has ended. */
+static void call_above(size_t over) {
+  volatile uint8_t spare[over];
+  spare[0] = spare[over - 1] = 0;
+  make_call();
+  spare[0] = answer;
+}
+
+static void overflow(int number) {
+  ssize_t ignored = write(2, where, strlen(where));
+  (void)number;
+  (void)ignored;
+  _exit(1);
+}
+
+/* Where the stack of the call starts, in a measurement. */
+static uint8_t *top;
+
+static void *run(void *unused) {
+  static uint8_t spare[65536];
+  stack_t other;
+  uint8_t here;
+  size_t left = (size_t)(&here - (region + GUARD));
+  memset(&other, 0, sizeof other);
+  other.ss_sp = spare;
+  other.ss_size = sizeof spare;
+  sigaltstack(&other, NULL);
+  if (measuring) {
+    top = &here;
+    make_call();
+  } else {
+    call_above(left - STACK_BYTES);
+  }
+  return unused;
+}
+
+static void in_thread(void) {
+  pthread_attr_t attributes;
+  pthread_t thread;
+  pthread_attr_init(&attributes);
+  if (pthread_attr_setstack(&attributes, region + GUARD, REGION - GUARD) != 0 ||
+      pthread_create(&thread, &attributes, run, NULL) != 0) {
+    fprintf(stderr, "no thread\n");
+    exit(2);
+  }
+  pthread_join(thread, NULL);
+  pthread_attr_destroy(&attributes);
+}
+
+static size_t most[CALLS];
+static char most_where[CALLS][128];
+
+/* The lowest place of the stack that is no longer painted. All below it is painted still. */
+static uint8_t *lowest_used(void) {
+  const uint64_t *place = (const uint64_t *)(void *)(region + GUARD);
+  uint64_t painted;
+  memset(&painted, PAINT, sizeof painted);
+  while (*place == painted) {
+    place++;
+  }
+  return (uint8_t *)(uintptr_t)place;
+}
+
+static void measure(const char *name) {
+  uint8_t *lowest = lowest_used();
+  if ((size_t)(top - lowest) > most[call]) {
+    most[call] = (size_t)(top - lowest);
+    snprintf(most_where[call], sizeof most_where[call], "%s", name);
+  }
+  memset(lowest, PAINT, (size_t)(region + REGION - lowest));
+}
+
+static void try_bundle(const char *name) {
+  for (call = 0; call < CALLS; call++) {
+    snprintf(where, sizeof where, "more than %lu bytes of stack: %s, %s\n", (unsigned long)STACK_BYTES,
+             call_names[call], name);
+    in_thread();
+    if (answer != 0) {
+      fprintf(stderr, "%s refuses with %d: %s\n", call_names[call], answer, name);
+      exit(2);
+    }
+    if (measuring) {
+      measure(name);
+    }
+  }
+}
+
+static void try_shape(const struct shape *shape) {
+  char name[128];
+  make_bundle(shape);
+  snprintf(name, sizeof name, "%s, %d levels of %s in %s, %u edges, %lu bytes", start_names[shape->start], shape->levels,
+           kind_names[shape->inside], kind_names[shape->outside], shape->edges, (unsigned long)length);
+  try_bundle(name);
+}
+
+static void try_kinds(struct shape *shape) {
+  static const int levels[] = {1, 2, 4, 8, 12, 17, 23};
+  size_t depth;
+  for (shape->outside = 0; shape->outside < KINDS; shape->outside++) {
+    for (shape->inside = 0; shape->inside < KINDS; shape->inside++) {
+      for (depth = 0; depth < sizeof levels / sizeof *levels; depth++) {
+        shape->levels = levels[depth];
+        try_shape(shape);
+      }
+    }
+  }
+}
+
+int main(int count, char **words) {
+  static const size_t limits[] = {64, 1024, LAYOUT_BYTE_LIMIT};
+  static const unsigned edges[] = {0, 2, LAYOUT_EDGE_LIMIT};
+  struct sigaction action;
+  struct shape shape;
+  size_t limit, some;
+  measuring = count == 2 && strcmp(words[1], "measure") == 0;
+  region = mmap(NULL, REGION, PROT_READ | PROT_WRITE, MAP_PRIVATE | MAP_ANONYMOUS, -1, 0);
+  out = malloc(REPORT_ROOM);
+  if (region == MAP_FAILED || out == NULL || mprotect(region, GUARD, PROT_NONE) != 0) {
+    fprintf(stderr, "no memory\n");
+    return 2;
+  }
+  memset(region + GUARD, PAINT, REGION - GUARD);
+  memset(&action, 0, sizeof action);
+  action.sa_handler = overflow;
+  action.sa_flags = SA_ONSTACK;
+  sigaction(SIGSEGV, &action, NULL);
+  for (limit = 0; limit < 3; limit++) {
+    for (some = 0; some < 3; some++) {
+      shape.limit = limits[limit];
+      shape.edges = edges[some];
+      if (6 * shape.edges + 200 > shape.limit && shape.edges > 0) {
+        continue;
+      }
+      for (shape.start = 0; shape.start < STARTS; shape.start++) {
+        try_kinds(&shape);
+      }
+    }
+  }
+  for (call = 0; measuring && call < CALLS; call++) {
+    printf("%-9s%8lu  %s\n", call_names[call], (unsigned long)most[call], most_where[call]);
+  }
+  if (!measuring) {
+    printf("every call has enough with %lu bytes of stack\n", (unsigned long)STACK_BYTES);
+  }
+  return 0;
+}
