@@ -36,7 +36,7 @@ const WORST: [Row; 6] = [
 ];
 
 /// Bundles in which a check could multiply one count by another.
-const SHAPES: [Row; 21] = [
+const SHAPES: [Row; 24] = [
     ("a plausible record, 1,200 fields", shapes::plausible),
     ("800 fields x a missing field", shapes::some_missing),
     ("fields x a missing field", shapes::missing_field),
@@ -64,6 +64,12 @@ const SHAPES: [Row; 21] = [
     ("names of few low bytes", shapes::names_alike),
     ("fields of few low bytes", shapes::fields_alike),
     ("13,000 names of few low bytes", shapes::all_names_alike),
+    (
+        "structs of one name x one bucket",
+        shapes::one_name_one_bucket,
+    ),
+    ("many structs to one long size", shapes::one_long_size),
+    ("enums of one name, one long tag", shapes::one_long_tag),
 ];
 
 const USAGE: &str = "usage:

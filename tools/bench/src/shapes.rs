@@ -215,6 +215,56 @@ pub fn one_name_many_fields(bytes: usize) -> Bundle {
     })
 }
 
+/// The same, where the names of the first struct's fields are equal modulo 256, and
+/// so is the name that is referred to and that no field has.
+pub fn one_name_one_bucket(bytes: usize) -> Bundle {
+    largest(bytes, &|count| {
+        let mut first: Vec<(Name, Type)> = (1..256).map(|number| (number * 256, U8)).collect();
+        first.push((OTHER, Type::TypeRef(TARGET)));
+        let other = structure(vec![(OTHER, Type::TypeRef(TARGET))]);
+        let mut list = vec![define(OWNER, structure(first))];
+        list.extend(vec![define(OWNER, other); MANY as usize]);
+        list.push(define(TARGET, array(sum(count, &|_| own(0)), U8)));
+        bundle(list)
+    })
+}
+
+/// Many structs that lead to one array with a long size, of which the last part alone
+/// is a reference.
+pub fn one_long_size(bytes: usize) -> Bundle {
+    largest(bytes, &|count| {
+        let body = || structure(vec![(OTHER, Type::TypeRef(TARGET))]);
+        let mut list: Vec<Definition> = (0..MANY)
+            .map(|number| define(FIRST + number, body()))
+            .collect();
+        let part = |number: usize| match number + 1 == count {
+            true => own(MISSING),
+            false => literal(0),
+        };
+        list.push(define(TARGET, array(sum(count, &part), U8)));
+        bundle(list)
+    })
+}
+
+/// Many enums of one name, the first with a long tag, the others with references into
+/// structs that hold the enum.
+pub fn one_long_tag(bytes: usize) -> Bundle {
+    const STRUCTS: usize = 30;
+    const ENUMS: usize = 80;
+    largest(bytes, &|count| {
+        let long = sum(count, &|_| literal(0));
+        let tag = sum(STRUCTS, &|number| field_of(FIRST + number as Name, OTHER));
+        let mut list = vec![define(TARGET, enumeration(long, variants(2, U16)))];
+        list.extend(vec![
+            define(TARGET, enumeration(tag, variants(2, U16)));
+            ENUMS
+        ]);
+        let holder = structure(vec![(OTHER, Type::TypeRef(TARGET))]);
+        list.extend((0..STRUCTS).map(|number| define(FIRST + number as Name, holder.clone())));
+        bundle(list)
+    })
+}
+
 /// A tag with many references to a name that has many structs, none of which holds
 /// the enum.
 pub fn no_container(bytes: usize) -> Bundle {
