@@ -1,3 +1,4 @@
+pub mod Leads
 pub mod Noting
 pub mod Walking
 pub mod Shown

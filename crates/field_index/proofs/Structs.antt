@@ -2,8 +2,8 @@
 --     room-for        there is room for one more part
 --     below-start, -none, -next, -end    the walk over the definitions
 --     table-stays     what is said of the definitions stays
-use Prim.Native.Nat.{ℕ, _+_, _*_, _≤_, _<_}
-use mathlib.Core.Path.{_≡_, refl, sym, ap, _∙_}
+use Prim.Native.Nat.{ℕ, zero, suc, _+_, _-_, _*_, _≤_, _<_}
+use mathlib.Core.Path.{_≡_, refl, sym, ap, ap₂, subst, _∙_}
 use mathlib.Core.Logic.{by-cases}
 use mathlib.Core.Option.{none}
 use mathlib.Core.List.{List, [], _∷_}
@@ -18,16 +18,18 @@ use Rattle.meaning.specs.Tree.{Ty, primitive, typeRef, struct, union, enum, arr
 use Rattle.names.specs.Names.{inserts}
 use Rattle.bundle.specs.Definitions.{typeAt, bundleOf, Table, definitionNames, namesAt, firstsAt, tableAt, buckets}
 use Rattle.bundle.proofs.NameLaws.{table-few}
+use Rattle.bundle.proofs.LookupLaws.{place-there}
+use Rattle.sizes.specs.Scan.{referencesFrom}
 use Rattle.bundle.proofs.Parts.{members-none, members-length}
 use Rattle.fields.specs.declared.Shape.{Shape}
 use Rattle.fields.proofs.Shape.{the-type}
 use Rattle.fields.proofs.ShapeLaws.{shape-other}
 use Rattle.fields.specs.Shapes.{StructAt, ShapeOf}
 use Rattle.table.specs.Table.{Within}
-use Rattle.field_index.specs.Noted.{startsAt, partsAt, Part, NotedFor, fieldsOf, fieldsAt, Noted, NotedBelow, Behind}
+use Rattle.field_index.specs.Noted.{startsAt, partsAt, partOf, Part, NotedFor, leadsOf, leadsAt, LeadsTo, fieldsOf, fieldsAt, referencesOf, referencesTo, Noted, NotedBelow, Behind}
 use Rattle.field_index.proofs.Noting.{members-same}
 use Rattle.field_index.proofs.Walking.{fields, part-same}
-use Rattle.field_index.proofs.Widths.{place-there, place-next, struct-wide}
+use Rattle.field_index.proofs.Widths.{place-next, struct-wide}
 
 -- what is no struct has no fields
 no-fields : (t : Ty) → asStruct t ≡ none → fieldsOf t ≡ []
@@ -48,10 +50,10 @@ struct-fields at s g = rw (g .tree) refl
 pub struct-empty : (at : ℕ) (s : List ℕ) {n : ℕ} → StructAt 24 s at n → n ≡ 0 → fieldsOf (typeAt 24 s at) ≡ []
 struct-empty at s {n} g z = struct-fields at s g ∙ ap listOf (members-none 23 0x50 s n (at + 12) z)
 
-pub below-start : {s : List ℕ} (places : List ℕ) → length s ≤ 32768 → 3 * partsAt + 5 * length s ≤ 3 * length places → NotedBelow s places 0 partsAt
+pub below-start : {s : List ℕ} (places : List ℕ) → length s ≤ 32768 → 2 * partsAt + 3 * length s ≤ 2 * length places → NotedBelow s places 0 partsAt
 below-start places short size =
     record {
-      noted = record { size = omega arith; each = λ i l. absurd (omega arith) };
+      noted = record { size = omega arith; each = λ i l. absurd (omega arith); leads = λ i l _. absurd (omega arith) };
       from = omega arith;
       room = omega arith;
       size = size;
@@ -64,10 +66,10 @@ module _ {s : List ℕ} {count : ℕ} {places : List ℕ} (t : Table s count pla
   few = omega (arith, t .count, t .placed .room)
 
   pub used-small : (used < 65536) × (used ≤ length places)
-  used-small = (omega (arith, o .room, o .short, place-there t l), omega (arith, o .room, o .size, place-there t l))
+  used-small = (omega (arith, o .room, o .short, place-there t i l), omega (arith, o .room, o .size, place-there t i l))
 
-  pub room-for : {n : ℕ} → StructAt 24 s (getD places i 0) n → (n < 65535) × (used + 2 + 5 * n ≤ length places)
-  room-for g = let h = struct-wide t l g in (omega (arith, h .1, o .short), omega (arith, h .1, o .room, o .size))
+  pub room-for : {n : ℕ} → StructAt 24 s (getD places i 0) n → (used + 2 + 6 * n ≤ length places) × (used + 2 + 6 * n < 65536)
+  room-for g = let h = struct-wide t l g in (omega (arith, h .1, o .room, o .size), omega (arith, h .1, o .room, o .short))
 
   -- the places before those used stay, but for where the part of definition i starts
   module _ (u : List ℕ) (long : length u ≡ length places) (same : (j : ℕ) → j < used → (j ≡ startsAt + i → ⊥) → getD u j 0 ≡ getD places j 0) where
@@ -77,36 +79,58 @@ module _ {s : List ℕ} {count : ℕ} {places : List ℕ} (t : Table s count pla
     fields-stay : (j : ℕ) → j < startsAt → fieldsAt s u j ≡ fieldsAt s places j
     fields-stay j c = ap (λ a. fieldsOf (typeAt 24 s a)) (below j c)
 
-    kept : (j : ℕ) → j < i → NotedFor (fieldsAt s u j) u (getD u (startsAt + j) 0)
+    -- as many references
+    references-stay : (j : ℕ) → j < startsAt → referencesTo s u j ≡ referencesTo s places j
+    references-stay zero c = refl
+    references-stay (suc j) c =
+        ap₂ _+_ (references-stay j (omega arith))
+        (ap length (ap₂ (λ x y. referencesFrom s x (y - 3)) (below j (omega arith)) (below (j + 1) (omega arith))))
+
+    -- a part before those used, and what is in it
+    part-stays : (j : ℕ) → j < i → partOf u j ≡ partOf places j
+    part-stays j c = same (startsAt + j) (omega (arith, few, o .from)) (λ z. omega (arith, z))
+
+    inside-stays : (j : ℕ) → j < i → 0 < partOf places j → (k : ℕ) → partOf places j ≤ k → k < partOf places j + 2 + 6 * length (fieldsAt s places j) → getD u k 0 ≡ getD places k 0
+    inside-stays j c a k b d = let q = o .parts j c a in same k (omega (arith, q .1)) (λ z. omega (arith, z, few, q .0))
+
+    leads-kept : (j : ℕ) → j < i → 0 < partOf u j → LeadsTo (leadsOf (bundleOf s) (fieldsAt s u j)) u (partOf u j) (length (fieldsAt s u j)) (length (fieldsAt s u j))
+    leads-kept j c a =
+        rw (fields-stay j (omega (arith, few)), part-stays j c)
+        (λ k b. let p : 0 < partOf places j = omega (arith, a, part-stays j c) in
+        inside-stays j c p (leadsAt (partOf places j) (length (fieldsAt s places j)) + k) (omega arith) (omega arith) ∙ o .noted .leads j c p k b)
+
+    kept : (j : ℕ) → j < i → NotedFor (fieldsAt s u j) u (partOf u j)
     kept j c =
-        rw (fields-stay j (omega (arith, few)), same (startsAt + j) (omega (arith, few, o .from)) (λ z. omega (arith, z)))
-        (record {
-          none = o .noted .each j c .none;
-          part = λ a.
-              let q = o .parts j c a in
-              part-same u (λ k b d. same k (omega (arith, q .1)) (λ z. omega (arith, z, few, q .0))) (omega (arith, long)) (o .noted .each j c .part a);
-        })
+        rw (fields-stay j (omega (arith, few)), part-stays j c)
+        (record { none = o .noted .each j c .none; part = λ a. part-same u (inside-stays j c a) (omega (arith, long)) (o .noted .each j c .part a) })
 
     -- the fields of definition i are noted up to a place
-    pub below-next : {used′ : ℕ} → NotedFor (fieldsAt s places i) u (getD u (startsAt + i) 0) → used ≤ used′ → 3 * used′ ≤ 3 * partsAt + 5 * getD places (i + 1) 0
-        → (0 < getD u (startsAt + i) 0 → (partsAt ≤ getD u (startsAt + i) 0) × (getD u (startsAt + i) 0 + 2 + 5 * length (fieldsAt s places i) ≤ used′))
+    pub below-next : {used′ : ℕ} → NotedFor (fieldsAt s places i) u (partOf u i)
+        → (0 < partOf u i → LeadsTo (leadsOf (bundleOf s) (fieldsAt s places i)) u (partOf u i) (length (fieldsAt s places i)) (length (fieldsAt s places i)))
+        → used ≤ used′ → 2 * used′ + 6 * (referencesTo s places i + length (referencesOf s places i)) ≤ 2 * partsAt + 3 * getD places (i + 1) 0
+        → (0 < partOf u i → (partsAt ≤ partOf u i) × (partOf u i + 2 + 6 * length (fieldsAt s places i) ≤ used′))
         → NotedBelow s u (i + 1) used′ × Behind places u
-    below-next {used′} here more room part = (
+    below-next {used′} here leads more room part = (
       record {
         noted = record {
           size = omega (arith, long, o .noted .size);
           each = λ j c.
               by-cases (decLt j i) (kept j)
               (λ (n : ¬ (j < i)). let z : j ≡ i = omega arith in rw (z, fields-stay i (omega (arith, few))) here);
+          leads = λ j c.
+              by-cases (decLt j i) (leads-kept j)
+              (λ (n : ¬ (j < i)). let z : j ≡ i = omega arith in rw (z, fields-stay i (omega (arith, few))) leads);
         };
         from = omega (arith, o .from);
-        room = omega (arith, room, below (i + 1) (omega (arith, few)));
+        room =
+            let next : i + 1 ≡ suc i = omega arith in
+            omega (arith, room, below (i + 1) (omega (arith, few)), ap (referencesTo s u) next, references-stay (suc i) (omega (arith, few)));
         size = omega (arith, long, o .size);
         short = o .short;
         parts = λ j c.
             by-cases (decLt j i)
             (λ (b : j < i). λ a.
-            let e = same (startsAt + j) (omega (arith, few, o .from)) (λ z. omega (arith, z)) in
+            let e = part-stays j b in
             let q = o .parts j b (omega (arith, a, e)) in
             (omega (arith, q .0, e), rw (fields-stay j (omega (arith, few))) (omega (arith, q .1, e))))
             (λ (b : ¬ (j < i)). let z : j ≡ i = omega arith in rw (z, fields-stay i (omega (arith, few))) part);
@@ -120,13 +144,14 @@ module _ {s : List ℕ} {count : ℕ} {places : List ℕ} (t : Table s count pla
       let there : startsAt + i < length places = omega (arith, few, o .noted .size) in
       let here : getD (set places (startsAt + i) 0) (startsAt + i) 0 ≡ 0 = getD-set-same places (startsAt + i) 0 0 there in
       below-next (set places (startsAt + i) 0) (length-set places (startsAt + i) 0) (λ j c ne. getD-set-other places (startsAt + i) j 0 0 ne)
-      (rw here (record { none = λ _. e; part = λ c. absurd (omega arith) }))
+      (rw here (record { none = λ _. e; part = λ c. absurd (omega arith) })) (λ c. absurd (omega (arith, here, c)))
       (omega arith) (omega (arith, o .room, place-next t l)) (λ c. absurd (omega (arith, here, c)))
 
   -- it is a struct with n fields, noted behind the other parts
   pub below-struct : {n : ℕ} {u : List ℕ} → StructAt 24 s (getD places i 0) n → Part (fields s (getD places i 0 + 12) n) u used
-      → Within used (used + 2 + 5 * n) (set (set places (startsAt + i) 0) (startsAt + i) used) u → NotedBelow s u (i + 1) (used + 2 + 5 * n) × Behind places u
-  below-struct {n} {u} g p w =
+      → LeadsTo (leadsOf (bundleOf s) (fields s (getD places i 0 + 12) n)) u used n n
+      → Within used (used + 2 + 6 * n) (set (set places (startsAt + i) 0) (startsAt + i) used) u → NotedBelow s u (i + 1) (used + 2 + 6 * n) × Behind places u
+  below-struct {n} {u} g p leads w =
       let k = startsAt + i in
       let there : k < length places = omega (arith, few, o .noted .size) in
       let long : length u ≡ length places = w .size ∙ length-set (set places k 0) k used ∙ length-set places k 0 in
@@ -135,12 +160,12 @@ module _ {s : List ℕ} {count : ℕ} {places : List ℕ} (t : Table s count pla
       let count : length (fields s (getD places i 0 + 12) n) ≡ n = members-length 23 0x50 s n (getD places i 0 + 12) (g .reads) in
       below-next u long
       (λ j c ne. w .before j c ∙ getD-set-other (set places k 0) k j used 0 ne ∙ getD-set-other places k j 0 0 ne)
-      (rw (here, is) (record { none = λ z. absurd (omega (arith, z, o .from)); part = λ _. p }))
+      (rw (here, is) (record { none = λ z. absurd (omega (arith, z, o .from)); part = λ _. p })) (λ _. rw (here, is, count) leads)
       (omega arith) (omega (arith, o .room, struct-wide t l g .0))
       (λ _. rw (here, is, count) (o .from, omega arith))
 
-pub below-end : {s places : List ℕ} {n i used : ℕ} → n ≤ i → NotedBelow s places i used → Noted s places n
-below-end l o = record { size = o .noted .size; each = λ i c. o .noted .each i (omega arith) }
+pub below-end : {s places : List ℕ} {n i used : ℕ} → i ≡ n → NotedBelow s places i used → NotedBelow s places n used
+below-end {s} {places} {used = used} e o = subst (λ k. NotedBelow s places k used) e o
 
 -- what the places of the definitions say stays with them
 pub table-stays : {s : List ℕ} {n : ℕ} {places u : List ℕ} → Table s n places → Behind places u → Table s n u
@@ -167,3 +192,9 @@ table-stays {s} {n} {places} {u} t b =
     same : (i : ℕ) → 0 ≤ i → i < 0 + buckets + 2 * length (inserts [] (take n (definitionNames (bundleOf s)))) → getD (drop tableAt u) i 0 ≡ getD (drop tableAt places) i 0
     same i _ l =
         getD-drop tableAt u i 0 ∙ b .same (tableAt + i) (omega (arith, l, table-few t, t .noted .count)) ∙ sym (getD-drop tableAt places i 0)
+
+pub table-within : {s : List ℕ} {n : ℕ} {places u : List ℕ} {a b : ℕ} → Table s n places → partsAt ≤ a → Within a b places u → Table s n u
+table-within t l w = table-stays t (record { size = w .size; same = λ i c. w .before i (omega arith) })
+
+pub table-set : {s : List ℕ} {n : ℕ} {places : List ℕ} → Table s n places → (k v : ℕ) → startsAt ≤ k → Table s n (set places k v)
+table-set {places = places} t k v l = table-stays t (record { size = length-set places k v; same = λ i c. getD-set-other places k i v 0 (λ z. omega (arith, z)) })

@@ -4,21 +4,23 @@
 --     started             what is written before it
 use Prim.Native.Nat.{ℕ, zero, suc, _+_, _-_, _*_, _≤_, _<_}
 use mathlib.Core.Path.{_≡_, refl, sym, ap, subst, _∙_}
-use mathlib.Core.List.{List, [], _∷_}
+use mathlib.Core.Logic.{by-cases}
+use mathlib.Core.List.{List, [], _∷_, map}
 use native.Mathlib.Omega.{arith}
+use native.Mathlib.Decide.{decLt}
 use lib.ListN.{length, length-set, getD, set, drop}
 use lib.Seq.{getD-set-same, getD-set-other}
-use Rattle.meaning.specs.Lookup.{listOf, memberName}
+use Rattle.meaning.specs.Lookup.{listOf, memberName, memberType, asTypeRef}
 use Rattle.meaning.specs.ReadType.{readTy, readMembers}
-use Rattle.meaning.specs.Tree.{Member}
+use Rattle.meaning.specs.Tree.{Member, member}
 use Rattle.bundle.specs.View.{Reads}
-use Rattle.bundle.specs.Definitions.{membersAt}
+use Rattle.bundle.specs.Definitions.{typeAt, membersAt, bundleOf}
 use Rattle.bundle.proofs.Parts.{members-length}
 use Rattle.fields.specs.declared.Field.{Field}
 use Rattle.fields.specs.Shapes.{FieldAt}
 use Rattle.fields.proofs.Walking.{Passing, passing-next, passing-tree}
 use Rattle.table.specs.Table.{Members, Within}
-use Rattle.field_index.specs.Noted.{nameAt, tableAt, NotedTo, Part}
+use Rattle.field_index.specs.Noted.{nameAt, tableAt, NotedTo, Part, leadShown, leadsOf, leadsAt, LeadsTo}
 use Rattle.field_index.proofs.Noting.{members-same, OneMore}
 
 -- places of the part at a from its names on hold the same
@@ -36,7 +38,7 @@ noted-same {t = t} u {a} {n} {d} l same long o =
     name : (r : ℕ) → r < d → getD u (tableAt a n + n + 2 * r) 0 ≡ getD t (tableAt a n + n + 2 * r) 0
     name r c = same (tableAt a n + n + 2 * r) (omega arith) (omega arith)
 
-pub part-same : {ms : List Member} {t : List ℕ} (u : List ℕ) {a : ℕ} → ((i : ℕ) → a ≤ i → i < a + 2 + 5 * length ms → getD u i 0 ≡ getD t i 0)
+pub part-same : {ms : List Member} {t : List ℕ} (u : List ℕ) {a : ℕ} → ((i : ℕ) → a ≤ i → i < a + 2 + 6 * length ms → getD u i 0 ≡ getD t i 0)
     → length t ≤ length u → Part ms t a → Part ms u a
 part-same {ms} {t} u {a} same long p =
     record {
@@ -45,16 +47,16 @@ part-same {ms} {t} u {a} same long p =
       room = omega (arith, p .room);
       all =
           rw (same (a + 1) (omega arith) (omega arith))
-          (noted-same u (p .all .few) (λ i c m. same i (omega arith) m) long (p .all));
+          (noted-same u (p .all .few) (λ i c m. same i (omega arith) (omega arith)) long (p .all));
     }
 
--- the name of the first of the fields left, and those behind it
-left-name : (ms : List Member) (k : ℕ) {m : Member} {rest : List Member} → m ∷ rest ≡ drop k ms → (nameAt ms k ≡ memberName m) × (rest ≡ drop (k + 1) ms)
-left-name [] zero e = let z : _≡_ {A = ℕ} 0 1 = cc in absurd (omega arith)
-left-name [] (suc k) e = let z : _≡_ {A = ℕ} 0 1 = cc in absurd (omega arith)
-left-name (x ∷ xs) zero e = (cc, cc)
-left-name (x ∷ xs) (suc k) e =
-    let h = left-name xs k e in
+-- what is said of the first of the fields left, and those behind it
+left-name : (f : Member → ℕ) (ms : List Member) (k : ℕ) {m : Member} {rest : List Member} → m ∷ rest ≡ drop k ms → (getD (map f ms) k 0 ≡ f m) × (rest ≡ drop (k + 1) ms)
+left-name f [] zero e = let z : _≡_ {A = ℕ} 0 1 = cc in absurd (omega arith)
+left-name f [] (suc k) e = let z : _≡_ {A = ℕ} 0 1 = cc in absurd (omega arith)
+left-name f (x ∷ xs) zero e = (cc, cc)
+left-name f (x ∷ xs) (suc k) e =
+    let h = left-name f xs k e in
     let z : suc k + 1 ≡ suc (k + 1) = omega arith in
     (h .0, h .1 ∙ ap (λ i. drop i (x ∷ xs)) (sym z))
 
@@ -68,10 +70,11 @@ pub record Noting (s : List ℕ) (at n : ℕ) (notes₀ : List ℕ) (a : ℕ) (n
   pub pass : Passing 23 s n (n - k) next
   pub rest : fields s next (n - k) ≡ drop k (fields s at n)
   pub noted : NotedTo (fields s at n) notes a n d k
+  pub leads : LeadsTo (leadsOf (bundleOf s) (fields s at n)) notes a n k
   pub count : getD notes a 0 ≡ n
-  pub only : Within a (a + 2 + 5 * n) notes₀ notes
+  pub only : Within a (a + 2 + 6 * n) notes₀ notes
 
-module _ (n : ℕ) (t : List ℕ) (a : ℕ) {u : List ℕ} (room : a + 2 + 5 * n ≤ length t) (w : Within (tableAt a n) (tableAt a n + n) (set t a n) u) where
+module _ (n : ℕ) (t : List ℕ) (a : ℕ) {u : List ℕ} (room : a + 2 + 6 * n ≤ length t) (w : Within (tableAt a n) (tableAt a n + n) (set t a n) u) where
   pub noting-start : {s : List ℕ} (at : ℕ) → Reads (readMembers (readTy 23) 0x50 n s at) → Members u (tableAt a n) n 0 → Noting s at n u a u at 0 0
   noting-start at reads m =
       record {
@@ -85,6 +88,7 @@ module _ (n : ℕ) (t : List ℕ) (a : ℕ) {u : List ℕ} (room : a + 2 + 5 * n
           firsts = λ r l. absurd (omega arith);
           lasts = λ r l. absurd (omega arith);
         };
+        leads = λ i l. absurd (omega arith);
         count = w .before a (omega arith) ∙ getD-set-same t a n 0 (omega arith);
         only = record { size = refl; before = λ i l. refl; behind = λ i l. refl };
       }
@@ -92,7 +96,7 @@ module _ (n : ℕ) (t : List ℕ) (a : ℕ) {u : List ℕ} (room : a + 2 + 5 * n
       all : (n : ℕ) → n - 0 ≡ n
       all n = omega arith
 
-  pub started : Within a (a + 2 + 5 * n) t u
+  pub started : Within a (a + 2 + 6 * n) t u
   started =
       record {
         size = w .size ∙ length-set t a n;
@@ -101,31 +105,45 @@ module _ (n : ℕ) (t : List ℕ) (a : ℕ) {u : List ℕ} (room : a + 2 + 5 * n
       }
 
 module _ {s : List ℕ} {at n : ℕ} {t : List ℕ} {a : ℕ} {u : List ℕ} {next d k : ℕ} (o : Noting s at n t a u next d k) where
-  pub noting-name : k < n → {f : Field} → FieldAt 23 s next f → nameAt (fields s at n) k ≡ f .name
-  noting-name l g = left-name (fields s at n) k (sym (ap listOf (passing-tree (o .pass) (omega arith) g)) ∙ o .rest) .0
+  module _ (l : k < n) {f : Field} (g : FieldAt 23 s next f) where
+    here : (what : Member → ℕ) → (getD (map what (fields s at n)) k 0 ≡ what (member (f .name) (g .value) (typeAt 23 s (f .at)))) × (fields s (f .next) (n - k - 1) ≡ drop (k + 1) (fields s at n))
+    here what = left-name what (fields s at n) k (sym (ap listOf (passing-tree (o .pass) (omega arith) g)) ∙ o .rest)
 
-  pub noting-next : k < n → {f : Field} → FieldAt 23 s next f → {v : List ℕ} {D : ℕ} → OneMore u v a n d k (f .name) D → Noting s at n t a v (f .next) D (k + 1)
-  noting-next l {f} g m =
-      record {
-        bound = omega arith;
-        pass = subst (λ left. Passing 23 s n left (f .next)) (one-less k n) (passing-next (o .pass) (omega arith) g);
-        rest =
-            ap (fields s (f .next)) (sym (one-less k n))
-            ∙ left-name (fields s at n) k (sym (ap listOf (passing-tree (o .pass) (omega arith) g)) ∙ o .rest) .1;
-        noted = m .0 (fields s at n) (o .noted) (noting-name l g);
-        count = m .1 .before a (omega arith) ∙ o .count;
-        only = record {
-          size = m .1 .size ∙ o .only .size;
-          before = λ i c. m .1 .before i (omega arith) ∙ o .only .before i c;
-          behind = λ i c. m .1 .behind i (omega arith) ∙ o .only .behind i c;
-        };
-      }
-    where
-      one-less : (k n : ℕ) → n - k - 1 ≡ n - (k + 1)
-      one-less k n = omega arith
+    pub noting-name : nameAt (fields s at n) k ≡ f .name
+    noting-name = here memberName .0
 
-  pub noting-end : {t₀ : List ℕ} → n ≤ k → 0 < n → a + 2 + 5 * n ≤ length t₀ → Reads (readMembers (readTy 23) 0x50 n s at) → Within a (a + 2 + 5 * n) t₀ t
-      → Part (fields s at n) (set u (a + 1) d) a × Within a (a + 2 + 5 * n) t₀ (set u (a + 1) d)
+    -- the name of one field more, and where it leads
+    pub noting-next : {v : List ℕ} {D : ℕ} → OneMore u v a n d k (f .name) D → a + 2 + 6 * n ≤ length t → {x : ℕ} → x ≡ leadShown (bundleOf s) (asTypeRef (typeAt 23 s (f .at)))
+        → Noting s at n t a (set v (leadsAt a n + k) x) (f .next) D (k + 1)
+    noting-next {v} {D} m room {x} e =
+        let p = leadsAt a n + k in
+        let other : (i : ℕ) → (i ≡ p → ⊥) → getD (set v p x) i 0 ≡ getD v i 0 = λ i ne. getD-set-other v p i x 0 ne in
+        record {
+          bound = omega arith;
+          pass = subst (λ left. Passing 23 s n left (f .next)) (one-less k n) (passing-next (o .pass) (omega arith) g);
+          rest = ap (fields s (f .next)) (sym (one-less k n)) ∙ here memberName .1;
+          noted =
+              let w = m .0 (fields s at n) (o .noted) noting-name in
+              noted-same (set v p x) (omega (arith, w .few)) (λ i c b. other i (λ z. omega (arith, z))) (omega (arith, length-set v p x)) w;
+          leads = λ i c.
+              by-cases (decLt i k)
+              (λ (b : i < k). other (leadsAt a n + i) (λ z. omega (arith, z)) ∙ m .1 .behind (leadsAt a n + i) (omega arith) ∙ o .leads i b)
+              (λ (b : ¬ (i < k)).
+              let z : i ≡ k = omega arith in
+              rw z (getD-set-same v p x 0 (omega (arith, room, m .1 .size, o .only .size)) ∙ e ∙ sym (here (λ y. leadShown (bundleOf s) (asTypeRef (memberType y))) .0)));
+          count = other a (λ z. omega (arith, z)) ∙ m .1 .before a (omega arith) ∙ o .count;
+          only = record {
+            size = length-set v p x ∙ m .1 .size ∙ o .only .size;
+            before = λ i c. other i (λ z. omega (arith, z)) ∙ m .1 .before i (omega arith) ∙ o .only .before i c;
+            behind = λ i c. other i (λ z. omega (arith, z)) ∙ m .1 .behind i (omega arith) ∙ o .only .behind i c;
+          };
+        }
+      where
+        one-less : (k n : ℕ) → n - k - 1 ≡ n - (k + 1)
+        one-less k n = omega arith
+
+  pub noting-end : {t₀ : List ℕ} → n ≤ k → 0 < n → a + 2 + 6 * n ≤ length t₀ → Reads (readMembers (readTy 23) 0x50 n s at) → Within a (a + 2 + 6 * n) t₀ t
+      → Part (fields s at n) (set u (a + 1) d) a × LeadsTo (leadsOf (bundleOf s) (fields s at n)) (set u (a + 1) d) a n n × Within a (a + 2 + 6 * n) t₀ (set u (a + 1) d)
   noting-end l some room reads begun =
       let e : length (fields s at n) ≡ n = members-length 23 0x50 s n at reads in
       let k-n : k ≡ n = omega (arith, o .bound) in
@@ -139,6 +157,7 @@ module _ {s : List ℕ} {at n : ℕ} {t : List ℕ} {a : ℕ} {u : List ℕ} {ne
               (subst (NotedTo (fields s at n) (set u (a + 1) d) a n d) k-n
               (noted-same (set u (a + 1) d) (omega (arith, o .noted .few, o .bound)) (λ i c m. other i (λ z. omega (arith, z))) (omega (arith, long)) (o .noted)));
         },
+        λ i c. other (leadsAt a n + i) (λ z. omega (arith, z)) ∙ o .leads i (omega arith),
         record {
           size = long ∙ o .only .size ∙ begun .size;
           before = λ i c. other i (λ z. omega (arith, z)) ∙ o .only .before i c ∙ begun .before i c;

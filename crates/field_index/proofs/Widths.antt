@@ -1,103 +1,69 @@
--- A field takes three bytes at least, so that a bundle has at most a third as many fields as bytes.
+-- A field takes four bytes at least and a reference two more, so that the notes of a bundle take at most three places for every two bytes.
 use Prim.Native.Nat.{ℕ, zero, suc, _+_, _-_, _*_, _≤_, _<_}
 use native.Mathlib.Omega.{arith}
-use native.Mathlib.Decide.{decLt}
-use mathlib.Core.Logic.{by-cases}
-use mathlib.Core.Path.{_≡_, refl, sym, ap, _∙_}
+use mathlib.Core.Path.{_≡_, sym, ap, _∙_}
 use mathlib.Core.List.{List}
-use lib.ListN.{length, getD}
-use Rattle.meaning.specs.Reader.{Read, ok, refused, Reader, after, done, many}
-use Rattle.meaning.specs.ReadType.{memberHead, readMember, readMembers, readTy}
-use Rattle.meaning.specs.Tree.{member, more, none}
-use Rattle.meaning.proofs.Readings.{went}
+use lib.ListN.{length, length-append, length-map, getD}
+use Rattle.meaning.specs.Limits.{depthLimit}
+use Rattle.meaning.specs.Reader.{many}
+use Rattle.meaning.specs.ReadType.{memberHead, readMembers, readTy}
+use Rattle.meaning.specs.References.{collectFieldReferencesInTypeKind, referencesInMembers}
 use Rattle.bundle.specs.declared.Step.the-variants.{Next}
-use Rattle.bundle.specs.View.{stepOf, Reads}
-use Rattle.bundle.specs.Definitions.{Table}
-use Rattle.bundle.proofs.Bounds.{Inside, type-in, step-in}
-use Rattle.bundle.proofs.LookupLaws.{placed-at}
-use Rattle.bundle.proofs.Trees.{ended}
-use Rattle.bundle.proofs.TypeTrees.{type-there}
+use Rattle.bundle.specs.View.{stepOf}
+use Rattle.bundle.specs.Definitions.{typeAt, membersAt, Table}
+use Rattle.bundle.proofs.LookupLaws.{place-ends}
+use Rattle.bundle.proofs.Trees.{ended, ended-reads}
 use Rattle.bundle.proofs.Heads.{member-where}
-use Rattle.bundle.proofs.Parts.{own-reads}
+use Rattle.bundle.proofs.PartTrees.{member-type-reads, members-split}
+use Rattle.bundle.proofs.Parts.{own-reads, others-end}
+use Rattle.sizes.specs.Scan.{pathAt, referencesFrom}
+use Rattle.sizes.proofs.ReferenceLaws.{type-bound, type-references, type-wide}
 use Rattle.fields.specs.Shapes.{StructAt}
+use Rattle.field_index.specs.Noted.{referencesOf}
 
--- where it starts within the bytes s, the reader ends there too, w bytes on at least
-record Wide {A : Type 0} (w : ℕ) (s : List ℕ) (r : Reader A) : Type 0 where
-  pub wide : (at n : ℕ) (a : A) → at ≤ length s → r s at ≡ ok a n → (at + w ≤ n) × (n ≤ length s)
+-- as many references as the tree has
+counted : (s : List ℕ) (d at m : ℕ) → d ≤ depthLimit → Next m ≡ stepOf (readTy d s at)
+    → length (referencesFrom s at m) ≡ length (collectFieldReferencesInTypeKind (typeAt d s at))
+counted s d at m l e = sym (length-map (referencesFrom s at m) (pathAt s)) ∙ ap length (type-references d at m s l e)
 
-module _ (s : List ℕ) where
-  done-wide : {A : Type 0} (a : A) → Wide 0 s (done a)
-  done-wide a = record { wide = λ at n b l e. let z : at ≡ n = cc in (omega arith, omega arith) }
+-- n fields that were read at a position and end at m
+module _ (s : List ℕ) (d : ℕ) (l : d ≤ depthLimit) where
+  abbrev Wide : ℕ → ℕ → ℕ → Type 0
+  Wide n at m = (at + 4 * n + 2 * length (referencesInMembers (membersAt d 0x50 n s at)) ≤ m) × (m ≤ length s)
 
-  inside-wide : {A : Type 0} {r : Reader A} → Inside s r → Wide 0 s r
-  inside-wide i = record { wide = λ at n a l e. let h = i .inside at n a l e in (omega (arith, h .0), h .1) }
+  -- the first of them
+  member-wide : (n at m : ℕ) → 0 < n → Next m ≡ stepOf (readMembers (readTy d) 0x50 n s at)
+      → ((i : ℕ) → i ≤ length s → Next m ≡ stepOf (readMembers (readTy d) 0x50 (n - 1) s i) → Wide (n - 1) i m) → Wide n at m
+  member-wide n at m c e later =
+      let r = ended-reads (readMembers (readTy d) 0x50 n s at) m e in
+      let own = ended (memberHead 0x50 s at) (own-reads d 0x50 s n at c r) in
+      let w = member-where 0x50 at (own .0) s (own .1) in
+      let type = ended (readTy d s (own .0)) (member-type-reads d 0x50 s n at c r (own .0) (own .1)) in
+      let here = type-wide d (own .0) (type .0) s l (type .1) in
+      let rest = later (type .0) (type-bound d (own .0) (type .0) s l (type .1)) (e ∙ others-end d 0x50 s n at c r (own .0) (type .0) (own .1) (type .1)) in
+      let k = counted s d (own .0) (type .0) l (type .1) in
+      rw (members-split d 0x50 s n at c r (own .0) (own .1) (type .0) (type .1))
+      (rw length-append (omega (arith, w .ends, here, k, rest .0)), rest .1)
 
-  then-wide : {A B : Type 0} {r : Reader A} {f : A → Reader B} (v w : ℕ) → Wide v s r → ((a : A) → Wide w s (f a)) → Wide (v + w) s (λ t at. after (r t at) f t)
-  then-wide {r = r} {f = f} v w h k =
-      record {
-        wide = λ at n b l e.
-            let g = went (r s at) f s b n e in
-            let i = h .wide at (g .middle) (g .value) l (g .first) in
-            let j = k (g .value) .wide (g .middle) n b (i .1) (g .then) in
-            (omega (arith, i .0, j .0), j .1);
-      }
-
-  many-wide : {A B : Type 0} (cons : A → B → B) (nil : B) (r : Reader A) → Wide 3 s r → (n : ℕ) → Wide (3 * n) s (many cons nil r n)
+  members-wide : (n at m : ℕ) → at ≤ length s → Next m ≡ stepOf (readMembers (readTy d) 0x50 n s at) → Wide n at m
   unfolding many
-  many-wide cons nil r h zero = done-wide nil
-  many-wide cons nil r h (suc n) =
-      let g = then-wide 3 (3 * n + 0) h (λ a. then-wide (3 * n) 0 (many-wide cons nil r h n) (λ rest. done-wide (cons a rest))) in
-      record { wide = λ at m b l e. let i = g .wide at m b l e in (omega (arith, i .0), i .1) }
-
-  head-wide : (k : ℕ) → Wide 3 s (memberHead k)
-  head-wide k =
-      record {
-        wide = λ at n a l e.
-            let g = member-where k at n s (sym (ap stepOf e)) in
-            (omega (arith, g .ends), g .bound);
-      }
-
-  members-wide : (d n : ℕ) → Wide (3 * n) s (readMembers (readTy d) 0x50 n)
-  unfolding readMember
-  members-wide d n =
-      many-wide more none (readMember (readTy d) 0x50)
-      (then-wide 3 0 (head-wide 0x50) (λ h. then-wide 0 0 (inside-wide (type-in s d)) (λ t. done-wide (member (h .0) (h .1) t)))) n
-
-  -- the same of a reader's step
-  step-wide : {A : Type 0} (w : ℕ) (r : Reader A) → Wide w s r → (at m : ℕ) → at ≤ length s → Next m ≡ stepOf (r s at) → (at + w ≤ m) × (m ≤ length s)
-  step-wide {A} w r h at m l e = go (r s at) refl e
-    where
-      go : (x : Read A) → r s at ≡ x → Next m ≡ stepOf x → (at + w ≤ m) × (m ≤ length s)
-      go (ok a n) p q = let k : m ≡ n = cc in rw k (h .wide at n a l p)
-      go (refused j) p q = let z : _≡_ {A = ℕ} 0 1 = cc in absurd (omega arith)
-
--- fields that were read are at most a third as many as the bytes
-pub fields-few : (s : List ℕ) (d n at : ℕ) → Reads (readMembers (readTy d) 0x50 n s at) → 3 * n ≤ length s
-fields-few s d n at r = by-cases (decLt 0 n) some (λ (l : ¬ (0 < n)). omega arith)
-  where
-    some : 0 < n → 3 * n ≤ length s
-    some l =
-        let h = ended (memberHead 0x50 s at) (own-reads d 0x50 s n at l r) in
-        let m = member-where 0x50 at (h .0) s (h .1) in
-        let k = ended (readMembers (readTy d) 0x50 n s at) r in
-        let w = step-wide s (3 * n) (readMembers (readTy d) 0x50 n) (members-wide s d n) at (k .0) (omega (arith, m .bound, m .ends)) (k .1) in
-        omega (arith, w .0, w .1)
+  members-wide zero at m b e = let p : m ≡ at = cc in rw p (omega arith, b)
+  members-wide (suc n) at m b e =
+      let q : suc n - 1 ≡ n = omega arith in
+      member-wide (suc n) at m (omega arith) e (rw q (λ i b e. members-wide n i m b e))
 
 -- where definition i stands, and where the next one would
 module _ {s : List ℕ} {count : ℕ} {places : List ℕ} (t : Table s count places) {i : ℕ} (l : i < count) where
   ends : Next (getD places (i + 1) 0 - 3) ≡ stepOf (readTy 24 s (getD places i 0))
-  ends = t .placed .ends i (omega (arith, t .count))
+  ends = place-ends t i l .1
 
-  pub place-there : getD places i 0 < length s
-  place-there = type-there 24 (getD places i 0) s (placed-at t i l .reads)
-
-  pub place-next : getD places i 0 ≤ getD places (i + 1) 0
-  place-next =
-      let h = step-in s (readTy 24) (type-in s 24) (getD places i 0) (getD places (i + 1) 0 - 3) (omega (arith, place-there)) ends in
-      omega (arith, h .0)
+  pub place-next : getD places i 0 + 2 * length (referencesOf s places i) ≤ getD places (i + 1) 0
+  place-next = omega (arith, type-wide 24 (getD places i 0) (getD places (i + 1) 0 - 3) s (omega arith) ends)
 
   pub struct-wide : {n : ℕ} → StructAt 24 s (getD places i 0) n
-      → (getD places i 0 + 12 + 3 * n ≤ getD places (i + 1) 0) × (getD places i 0 + 12 + 3 * n ≤ length s)
+      → (getD places i 0 + 12 + 4 * n + 2 * length (referencesOf s places i) ≤ getD places (i + 1) 0) × (getD places i 0 + 12 + 4 * n ≤ length s)
   struct-wide {n} g =
-      let h = step-wide s (3 * n) (readMembers (readTy 23) 0x50 n) (members-wide s 23 n) (getD places i 0 + 12) (getD places (i + 1) 0 - 3) (g .inside) (ends ∙ g .ends) in
-      (omega (arith, h .0), omega (arith, h .0, h .1))
+      let h = members-wide s 23 (omega arith) n (getD places i 0 + 12) (getD places (i + 1) 0 - 3) (g .inside) (ends ∙ g .ends) in
+      let k = counted s 24 (getD places i 0) (getD places (i + 1) 0 - 3) (omega arith) ends in
+      let same : length (collectFieldReferencesInTypeKind (typeAt 24 s (getD places i 0))) ≡ length (referencesInMembers (membersAt 23 0x50 n s (getD places i 0 + 12))) = rw (g .tree) in
+      (omega (arith, h .0, k, same), omega (arith, h .0, h .1))

@@ -1,14 +1,16 @@
 -- What is noted of the fields of structs: for each name that a field has, the indices of the first and the last such field.
-use Prim.Native.Nat.{ℕ, _+_, _*_, _≤_, _<_}
+use Prim.Native.Nat.{ℕ, zero, suc, _+_, _-_, _*_, _≤_, _<_}
 use mathlib.Core.Path.{_≡_}
 use mathlib.Core.Bool.{Bool, true, false}
 use mathlib.Core.List.{List, [], map}
+use mathlib.Core.Option.{Option, none, some}
 use lib.ListN.{length, getD}
 use Rattle.meaning.specs.Lists.{firstIndex, lastIndex}
-use Rattle.meaning.specs.Lookup.{listOf, memberName}
-use Rattle.meaning.specs.Tree.{Ty, primitive, typeRef, struct, union, enum, array, sizeUnion, Member}
+use Rattle.meaning.specs.Lookup.{listOf, memberName, memberType, asTypeRef, definitionOf}
+use Rattle.meaning.specs.Tree.{Ty, primitive, typeRef, struct, union, enum, array, sizeUnion, Member, Bundle}
 use Rattle.meaning.specs.Limits.{definitionLimit}
-use Rattle.bundle.specs.Definitions.{typeAt, placesEnd}
+use Rattle.bundle.specs.Definitions.{typeAt, bundleOf, placesEnd}
+use Rattle.sizes.specs.Scan.{referencesFrom}
 use Rattle.table.specs.Table.{Members, member}
 use Rattle.fields.specs.Sought.{sought, lastShown}
 
@@ -48,8 +50,25 @@ pub record NotedTo (ms : List Member) (notes : List ℕ) (a n d k : ℕ) : Type 
 pub record Part (ms : List Member) (notes : List ℕ) (a : ℕ) : Type 0 where
   pub some : 0 < length ms
   pub count : getD notes a 0 ≡ length ms
-  pub room : a + 2 + 5 * length ms ≤ length notes
+  pub room : a + 2 + 6 * length ms ≤ length notes
   pub all : NotedTo ms notes a (length ms) (getD notes (a + 1) 0) (length ms)
+
+-- one more than the number of the first definition of the name to which a TypeRef leads, and 0 where there is none
+abbrev pub leadShown : Bundle → Option ℕ → ℕ
+leadShown b none = 0
+leadShown b (some x) = definitionOf b x + 1
+
+-- the same of each field
+abbrev pub leadsOf : Bundle → List Member → List ℕ
+leadsOf b ms = map (λ m. leadShown b (asTypeRef (memberType m))) ms
+
+-- where this stands in a part at a for n fields
+abbrev pub leadsAt : ℕ → ℕ → ℕ
+leadsAt a n = a + 2 + 5 * n
+
+-- that of the first k fields stands there
+abbrev pub LeadsTo : List ℕ → List ℕ → ℕ → ℕ → ℕ → Type 0
+LeadsTo leads notes a n k = (i : ℕ) → i < k → getD notes (leadsAt a n + i) 0 ≡ getD leads i 0
 
 -- the fields ms have a part at a, or there is none where a is 0
 pub record NotedFor (ms : List Member) (notes : List ℕ) (a : ℕ) : Type 0 where
@@ -79,24 +98,39 @@ fieldsAt s places i = fieldsOf (typeAt 24 s (getD places i 0))
 abbrev pub startsAt : ℕ
 startsAt = placesEnd
 
--- where the parts start
+-- where the parts start; between the two there are places for the lists of references
 abbrev pub partsAt : ℕ
-partsAt = startsAt + definitionLimit
+partsAt = startsAt + definitionLimit + definitionLimit + 1
+
+-- where the part of definition i starts
+abbrev pub partOf : List ℕ → ℕ → ℕ
+partOf places i = getD places (startsAt + i) 0
+
+-- the references in definition i
+abbrev pub referencesOf : List ℕ → List ℕ → ℕ → List ℕ
+referencesOf s places i = referencesFrom s (getD places i 0) (getD places (i + 1) 0 - 3)
+
+-- how many there are in n definitions
+abbrev pub referencesTo : List ℕ → List ℕ → ℕ → ℕ
+referencesTo s places zero = 0
+referencesTo s places (suc n) = referencesTo s places n + length (referencesOf s places n)
 
 -- the fields of n definitions are noted
 pub record Noted (s places : List ℕ) (n : ℕ) : Type 0 where
   pub size : partsAt ≤ length places
-  pub each : (i : ℕ) → i < n → NotedFor (fieldsAt s places i) places (getD places (startsAt + i) 0)
+  pub each : (i : ℕ) → i < n → NotedFor (fieldsAt s places i) places (partOf places i)
+  pub leads : (i : ℕ) → i < n → 0 < partOf places i
+      → LeadsTo (leadsOf (bundleOf s) (fieldsAt s places i)) places (partOf places i) (length (fieldsAt s places i)) (length (fieldsAt s places i))
 
--- the same in the first `used` places; the parts take at most five for every three bytes before definition n
+-- the same in the first `used` places; the parts, and three for each reference, take at most three for every two bytes before definition n
 pub record NotedBelow (s places : List ℕ) (n used : ℕ) : Type 0 where
   pub noted : Noted s places n
   pub from : partsAt ≤ used
-  pub room : 3 * used ≤ 3 * partsAt + 5 * getD places n 0
-  pub size : 3 * partsAt + 5 * length s ≤ 3 * length places
+  pub room : 2 * used + 6 * referencesTo s places n ≤ 2 * partsAt + 3 * getD places n 0
+  pub size : 2 * partsAt + 3 * length s ≤ 2 * length places
   pub short : length s ≤ 32768
-  pub parts : (i : ℕ) → i < n → 0 < getD places (startsAt + i) 0
-      → (partsAt ≤ getD places (startsAt + i) 0) × (getD places (startsAt + i) 0 + 2 + 5 * length (fieldsAt s places i) ≤ used)
+  pub parts : (i : ℕ) → i < n → 0 < partOf places i
+      → (partsAt ≤ partOf places i) × (partOf places i + 2 + 6 * length (fieldsAt s places i) ≤ used)
 
 -- the places of the definitions stay
 pub record Behind (places places′ : List ℕ) : Type 0 where

@@ -1,7 +1,7 @@
 // The fields of every struct by their names: noted once for a bundle, behind the places of its definitions, and then looked up.
 // Behind those places stands for each definition where its part starts, and 0 where it is no struct or has no field. A part has the count
 // of fields and the count of their names, then for each name the index of the first field that has it, then for each the index of the
-// last, then a table of the names with as many buckets as there are fields.
+// last, then a table of the names with as many buckets as there are fields, then for each field where its type leads.
 use fields::Definition;
 use fields::Shape;
 ghost use mathlib.Core.Path.{_≡_};
@@ -10,17 +10,17 @@ ghost use mathlib.Core.List.{List, [], _∷_};
 ghost use Prim.Native.Nat.{ℕ, _+_, _*_, _≤_, _<_};
 ghost use lib.ListN.{length, getD};
 ghost use Rattle.meaning.specs.Lists.{holds};
-ghost use Rattle.meaning.specs.Lookup.{listOf};
+ghost use Rattle.meaning.specs.Lookup.{listOf, asTypeRef};
 ghost use Rattle.meaning.specs.Tree.{Member};
 ghost use Rattle.meaning.specs.ReadType.{readTy, readMembers};
 ghost use Rattle.meaning.specs.Violations.{structOf, standsAfter};
 ghost use Rattle.bundle.specs.View.{Reads};
-ghost use Rattle.bundle.specs.Definitions.{membersAt, bundleOf, Table};
+ghost use Rattle.bundle.specs.Definitions.{typeAt, membersAt, bundleOf, Table};
 ghost use Rattle.table.specs.Table.{Members, Within};
-ghost use Rattle.field_index.specs.Noted.{nameAt, tableAt, startsAt, partsAt, NotedTo, Part, NotedFor, indexShown, Noted, NotedBelow, Behind};
+ghost use Rattle.field_index.specs.Noted.{nameAt, tableAt, startsAt, partsAt, NotedTo, Part, NotedFor, indexShown, leadShown, leadsOf, LeadsTo, Noted, NotedBelow, Behind};
 
 // Where the parts start.
-pub const PARTS_AT: usize = bundle::PLACES + bundle::DEFINITIONS;
+pub const PARTS_AT: usize = bundle::PLACES + 2 * bundle::DEFINITIONS + 1;
 
 // Notes that field `k` of the `n` has the name `x`, in the part at `a` with `d` names. Returns how many names there are then.
 fn note_name(notes: &mut [u16], a: usize, n: usize, d: usize, k: usize, x: u16) -> usize
@@ -37,11 +37,23 @@ fn note_name(notes: &mut [u16], a: usize, n: usize, d: usize, k: usize, x: u16) 
     d + 1
 }
 
+// One more than the number of the first definition of the name to which the type at `at`, a TypeRef, leads; 0 for other types.
+fn lead_at(s: &[u8], places: &[u16], count: usize, at: usize) -> usize
+    requires { ⌜ Table (now s) count (now places) × Reads (readTy 23 (now s) at) ⌝ }
+    ensures { λ r. ⌜ (r ≡ leadShown (bundleOf (now (s .entry))) (asTypeRef (typeAt 23 (now (s .entry)) at))) × (r ≤ 257) ⌝ }
+{
+    let shape = fields::shape_at(s, at, bundle::DEPTH_INSIDE);
+    let Shape::TypeRef(x) = shape else {
+        return 0;
+    };
+    lookup::definition_of(s, places, count, x) + 1
+}
+
 // Notes the `n` fields that were read at `at` in the part at `a`.
-fn note_fields(s: &[u8], at: usize, n: usize, notes: &mut [u16], a: usize)
-    requires { ⌜ Reads (readMembers (readTy 23) 0x50 n (now s) at) ⌝ }
-    requires { ⌜ (0 < n) × (n < 65535) × (a + 2 + 5 * n ≤ length (now notes)) ⌝ }
-    ensures { λ _. ⌜ Part (listOf (membersAt 23 0x50 n (now (s .entry)) at)) (now (notes .exit)) a × Within a (a + 2 + 5 * n) (now (notes .entry)) (now (notes .exit)) ⌝ }
+fn note_fields(s: &[u8], count: usize, at: usize, n: usize, notes: &mut [u16], a: usize)
+    requires { ⌜ Table (now s) count (now notes) × Reads (readMembers (readTy 23) 0x50 n (now s) at) ⌝ }
+    requires { ⌜ (0 < n) × (partsAt ≤ a) × (a + 2 + 6 * n ≤ length (now notes)) × (a + 2 + 6 * n < 65536) ⌝ }
+    ensures { λ _. ⌜ Part (listOf (membersAt 23 0x50 n (now (s .entry)) at)) (now (notes .exit)) a × LeadsTo (leadsOf (bundleOf (now (s .entry))) (listOf (membersAt 23 0x50 n (now (s .entry)) at))) (now (notes .exit)) a n n × Within a (a + 2 + 6 * n) (now (notes .entry)) (now (notes .exit)) ⌝ }
 {
     notes[a] = n as u16;
     table::empty(notes, a + 2 + 2 * n, n);
@@ -52,6 +64,8 @@ fn note_fields(s: &[u8], at: usize, n: usize, notes: &mut [u16], a: usize)
     while k < n {
         let field = fields::field_at(s, next, bundle::DEPTH_INSIDE, form);
         d = note_name(notes, a, n, d, k, field.name);
+        let lead = lead_at(s, notes, count, field.at);
+        notes[a + 2 + 5 * n + k] = lead as u16;
         next = field.next;
         k += 1;
     }
@@ -59,8 +73,8 @@ fn note_fields(s: &[u8], at: usize, n: usize, notes: &mut [u16], a: usize)
 }
 
 // Notes the fields of definition `i`, if it is a struct with fields, behind the first `used` places. Returns how many are used then.
-fn note_struct(s: &[u8], places: &mut [u16], i: usize, used: usize) -> usize
-    requires { ⌜ ((count : ℕ) × Table (now s) count (now places) × (i < count)) × NotedBelow (now s) (now places) i used ⌝ }
+fn note_struct(s: &[u8], places: &mut [u16], count: usize, i: usize, used: usize) -> usize
+    requires { ⌜ Table (now s) count (now places) × (i < count) × NotedBelow (now s) (now places) i used ⌝ }
     ensures { λ r. ⌜ NotedBelow (now (s .entry)) (now (places .exit)) (i + 1) r × Behind (now (places .entry)) (now (places .exit)) ⌝ }
 {
     let at = places[i] as usize;
@@ -73,22 +87,23 @@ fn note_struct(s: &[u8], places: &mut [u16], i: usize, used: usize) -> usize
         return used;
     }
     places[bundle::PLACES + i] = used as u16;
-    note_fields(s, at + 12, n, places, used);
-    used + 2 + 5 * n
+    note_fields(s, count, at + 12, n, places, used);
+    used + 2 + 6 * n
 }
 
-// Notes the fields of every struct. What stands behind the places of the definitions before is free.
-pub fn note_structs(s: &[u8], places: &mut [u16], count: usize)
+// Notes the fields of every struct. What stands behind the places of the definitions before is free. Returns how many places are used.
+pub fn note_structs(s: &[u8], places: &mut [u16], count: usize) -> usize
     requires { ⌜ Table (now s) count (now places) × (length (now s) ≤ 32768) ⌝ }
-    requires { ⌜ 3 * partsAt + 5 * length (now s) ≤ 3 * length (now places) ⌝ }
-    ensures { λ _. ⌜ Table (now (s .entry)) count (now (places .exit)) × Noted (now (s .entry)) (now (places .exit)) count ⌝ }
+    requires { ⌜ 2 * partsAt + 3 * length (now s) ≤ 2 * length (now places) ⌝ }
+    ensures { λ r. ⌜ Table (now (s .entry)) count (now (places .exit)) × NotedBelow (now (s .entry)) (now (places .exit)) count r ⌝ }
 {
     let mut used = PARTS_AT;
     let mut i = 0;
     while i < count {
-        used = note_struct(s, places, i, used);
+        used = note_struct(s, places, count, i, used);
         i += 1;
     }
+    used
 }
 
 // What the part at `a` of `n` fields says of the name at place `r`: one more than the index of the first field that has it, or of the last

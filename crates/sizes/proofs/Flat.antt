@@ -4,13 +4,15 @@
 --     expr-flat, type-flat   the laws: an expression or type that was read is such a run
 use Prim.Native.Nat.{ℕ, zero, suc, _+_, _-_, _*_, _≤_, _<_}
 use native.Mathlib.Omega.{arith}
-use mathlib.Core.Path.{_≡_, refl, sym, ap, ap₂, _∙_}
+use mathlib.Core.Bool.{Bool, true, false, cond, _&&_}
+use mathlib.Core.Path.{_≡_, refl, sym, ap, ap₂, subst, _∙_}
 use mathlib.Core.List.{List, [], _∷_, _++_, append-assoc, append-nil, map, map-append}
 use mathlib.Core.Option.{none as nothing, some}
-use lib.ListN.{length}
+use lib.Dec.{T, leb, leb→le}
+use lib.ListN.{length, length-append, length-map, getD}
 use Rattle.meaning.specs.Kinds.{ExprForm, Literal, FieldRef, Sizeof, Alignof, Binary, Unary}
 use Rattle.meaning.specs.Kinds.{TypeForm, Primitive, TypeRef, Struct, Union, Enum, Array, SizeUnion}
-use Rattle.meaning.specs.Kinds.{Form, OfExpr, OfType, OfMember, OfRecord, Unknown}
+use Rattle.meaning.specs.Kinds.{Form, OfExpr, OfType, OfMember, OfRecord, Unknown, Row, row, lookup, kinds, formOf}
 use Rattle.meaning.specs.Limits.{depthLimit}
 use Rattle.meaning.specs.Reader.{Read, ok, refused, many, namesFrom}
 use Rattle.meaning.specs.ReadExpr.{readExpr, body}
@@ -44,6 +46,37 @@ unfolding namesFrom
 length-names s zero at = refl
 length-names s (suc n) at = ap suc (length-names s n (at + 2))
 
+-- a field reference has a name
+abbrev Named : Form → Type 0
+Named (OfExpr (Literal w)) = Unit {0}
+Named (OfExpr (FieldRef n)) = 0 < n
+Named (OfExpr Sizeof) = Unit {0}
+Named (OfExpr Alignof) = Unit {0}
+Named (OfExpr Binary) = Unit {0}
+Named (OfExpr Unary) = Unit {0}
+Named (OfType f) = Unit {0}
+Named (OfMember w) = Unit {0}
+Named (OfRecord x y z) = Unit {0}
+Named Unknown = Unit {0}
+
+-- each of the rows that could have the kind k says so
+abbrev EachNamed : List Row → ℕ → Type 0
+EachNamed [] k = Unit {0}
+EachNamed (row lo hi form ∷ rows) k = (lo ≤ k → Named (form k)) × EachNamed rows k
+
+lookup-named : (rows : List Row) (k : ℕ) → EachNamed rows k → Named (lookup rows k)
+unfolding lookup
+lookup-named [] k a = tt
+lookup-named (row lo hi form ∷ rows) k a = go (leb lo k) (leb k hi) refl (lookup-named rows k (a .1))
+  where
+    go : (x y : Bool) → leb lo k ≡ x → Named (lookup rows k) → Named (cond (x && y) (form k) (lookup rows k))
+    go true true p later = a .0 (leb→le lo k (subst T (sym p) tt))
+    go true false p later = later
+    go false y p later = later
+
+some-names : (k n : ℕ) → formOf k ≡ OfExpr (FieldRef n) → 0 < n
+some-names k n p = subst Named p (lookup-named kinds k (λ l. tt, (λ l. omega arith, (λ l. tt, (λ l. tt, (λ l. tt, (λ l. tt, (λ l. tt, (λ l. tt, (λ l. tt, (λ l. tt, (λ l. tt, (λ l. tt, (λ l. tt, (λ l. tt, (λ l. tt, (λ l. tt, (λ l. tt, (λ l. tt, tt)))))))))))))))))))
+
 module _ (s : List ℕ) where
   -- the run from `at` to m has field references of these paths, whatever follows it
   pub record Flat (at m : ℕ) (paths : List (List ℕ)) : Type 0 where
@@ -53,6 +86,7 @@ module _ (s : List ℕ) where
     pub scan : (end : ℕ) → m ≤ end → referencesFrom s at end ≡ places ++ referencesFrom s m end
     pub are : map (pathAt s) places ≡ paths
     pub fits : Fits s places
+    pub wide : at + 3 * length paths ≤ m
 
   -- one run after another, and no run
   fits-append : (ps qs : List ℕ) → Fits s ps → Fits s qs → Fits s (ps ++ qs)
@@ -70,10 +104,11 @@ module _ (s : List ℕ) where
         ∙ sym (append-assoc (f .places) (g .places) (referencesFrom s m end));
     are = map-append (pathAt s) (f .places) (g .places) ∙ ap₂ _++_ (f .are) (g .are);
     fits = fits-append (f .places) (g .places) (f .fits) (g .fits);
+    wide = omega (arith, f .wide, g .wide, length-append ps qs);
   }
 
   pub empty : {at : ℕ} → at ≤ length s → Flat at at []
-  empty h = record { forward = omega arith; bound = h; places = []; scan = λ end l. refl; are = refl; fits = tt }
+  empty h = record { forward = omega arith; bound = h; places = []; scan = λ end l. refl; are = refl; fits = tt; wide = omega arith }
 
   -- one record that is no field reference
   pub single : (at m : ℕ) (f : Form) → formAt s at ≡ f → recordEnd f s at ≡ m → namesIn f ≡ nothing → at < m → m ≤ length s → Flat at m []
@@ -87,6 +122,7 @@ module _ (s : List ℕ) where
         step s at end (omega arith) (omega (arith, q)) ∙ ap₂ (λ t n. also t at (referencesFrom s n end)) k q;
     are = refl;
     fits = tt;
+    wide = omega arith;
   }
 
   -- a field reference of n names
@@ -107,6 +143,7 @@ module _ (s : List ℕ) where
         scan = λ end h. step s at end (omega arith) (omega (arith, q)) ∙ ap₂ (λ t m. also t at (referencesFrom s m end)) k q;
         are = ap (_∷ []) (i .0);
         fits = (omega (arith, i .1, b), tt);
+        wide = omega (arith, some-names (getD s at 0) n p);
       }
 
   -- the law of expressions, where d levels are left
@@ -297,3 +334,7 @@ module _ (s : List ℕ) where
 
     pub whole-fits : Fits s (referencesFrom s at m)
     whole-fits = rw all-places (f .fits)
+
+    -- each takes three bytes at least
+    pub whole-wide : at + 3 * length (referencesFrom s at m) ≤ m
+    whole-wide = omega (arith, f .wide, ap length whole, length-map (referencesFrom s at m) (pathAt s))

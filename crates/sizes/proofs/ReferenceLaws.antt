@@ -1,5 +1,5 @@
 -- The field references of an expression or type that was read, as a scan over its records meets them.
-use Prim.Native.Nat.{ℕ, _≤_}
+use Prim.Native.Nat.{ℕ, _+_, _*_, _≤_}
 use native.Mathlib.Omega.{arith}
 use mathlib.Core.Bool.{Bool, true, false, _&&_}
 use mathlib.Core.Path.{_≡_, refl, sym, ap, ap₂, _∙_}
@@ -17,7 +17,7 @@ use Rattle.bundle.specs.Expressions.{exprAt}
 use Rattle.bundle.proofs.Trees.{refused-no}
 use Rattle.sizes.specs.declared.Found.the-variants.{At, Nothing}
 use Rattle.sizes.specs.Scan.{pathAt, referencesFrom, pathsFrom, foundOf, Fits}
-use Rattle.sizes.proofs.Flat.{expr-flat, type-flat, whole, whole-fits}
+use Rattle.sizes.proofs.Flat.{expr-flat, type-flat, whole, whole-fits, whole-wide}
 
 -- nothing that was read is refused
 pub expr-no : (d at k : ℕ) (s : List ℕ) → Reads (readExpr d s at) → Refused k ≡ stepOf (readExpr d s at) → ⊥
@@ -83,3 +83,7 @@ module _ (d at m : ℕ) (s : List ℕ) (l : d ≤ depthLimit) (e : Next m ≡ st
 
   pub type-fits : Fits s (referencesFrom s at m)
   type-fits = whole-fits s (type-flat s d l at m e .1)
+
+  -- behind its first byte there are two bytes for each of them
+  pub type-wide : at + 1 + 2 * length (referencesFrom s at m) ≤ m
+  type-wide = omega (arith, type-flat s d l at m e .0, whole-wide s (type-flat s d l at m e .1))

@@ -21,7 +21,7 @@ loop-holds c = (omega arith, below-start _ (c .before .before .pre .0 .1) (c .be
 
 note-struct-requires : tie.Need-note-struct-requires Inv-loop μ-loop
 note-struct-requires c κs = let l = c .before .before .loop .inv in
-    ((c .before .before .before .before .before .args .count, l .2, omega arith), l .1)
+    (l .2, omega arith, l .1)
 
 add-i : tie.Need-add-i Inv-loop μ-loop
 add-i c = search needs
@@ -38,7 +38,7 @@ same-length c = search needs
 
 returns : tie.Need-returns Inv-loop μ-loop
 returns c = let l = c .before .loop .inv in
-    (l .2, below-end (omega arith) (l .1))
+    (l .2, below-end (omega (arith, l .0)) (l .1))
 
 pub note-structs-spec : {M : Type 1} → statement M
 note-structs-spec =
