@@ -4,6 +4,7 @@ use mathlib.Core.Path.{_≡_}
 use mathlib.Core.Bool.{Bool, true, false}
 use mathlib.Core.List.{List, [], map}
 use mathlib.Core.Option.{Option, none, some}
+use lib.Dec.{eqb}
 use lib.ListN.{length, getD}
 use Rattle.meaning.specs.Lists.{firstIndex, lastIndex}
 use Rattle.meaning.specs.Lookup.{listOf, memberName, memberType, asTypeRef, definitionOf}
@@ -61,6 +62,16 @@ leadShown b (some x) = definitionOf b x + 1
 -- the same of each field
 abbrev pub leadsOf : Bundle → List Member → List ℕ
 leadsOf b ms = map (λ m. leadShown b (asTypeRef (memberType m))) ms
+
+-- the field leads where x says
+abbrev pub leadIs : Bundle → ℕ → Member → Bool
+leadIs b x m = eqb x (leadShown b (asTypeRef (memberType m)))
+
+-- of the n places from `at` on, the last that holds x is the one before r; none does where r is 0
+pub record LastIn (t : List ℕ) (at n x r : ℕ) : Type 0 where
+  pub within : r ≤ n
+  pub here : 0 < r → getD t (at + (r - 1)) 0 ≡ x
+  pub none : (j : ℕ) → r ≤ j → j < n → getD t (at + j) 0 ≡ x → ⊥
 
 -- where this stands in a part at a for n fields
 abbrev pub leadsAt : ℕ → ℕ → ℕ

@@ -9,15 +9,16 @@ ghost use mathlib.Core.Bool.{cond};
 ghost use mathlib.Core.List.{List, [], _∷_};
 ghost use Prim.Native.Nat.{ℕ, _+_, _*_, _≤_, _<_};
 ghost use lib.ListN.{length, getD};
-ghost use Rattle.meaning.specs.Lists.{holds};
+ghost use Rattle.meaning.specs.Lists.{lastIndex, holds};
 ghost use Rattle.meaning.specs.Lookup.{listOf, asTypeRef};
 ghost use Rattle.meaning.specs.Tree.{Member};
 ghost use Rattle.meaning.specs.ReadType.{readTy, readMembers};
 ghost use Rattle.meaning.specs.Violations.{structOf, standsAfter};
 ghost use Rattle.bundle.specs.View.{Reads};
 ghost use Rattle.bundle.specs.Definitions.{typeAt, membersAt, bundleOf, Table};
+ghost use Rattle.fields.specs.Sought.{lastShown};
 ghost use Rattle.table.specs.Table.{Members, Within};
-ghost use Rattle.field_index.specs.Noted.{nameAt, tableAt, startsAt, partsAt, NotedTo, Part, NotedFor, indexShown, leadShown, leadsOf, LeadsTo, Noted, NotedBelow, Behind};
+ghost use Rattle.field_index.specs.Noted.{nameAt, tableAt, startsAt, partsAt, NotedTo, Part, NotedFor, indexShown, leadShown, leadsOf, LeadsTo, leadIs, LastIn, fieldsAt, Noted, NotedBelow, Behind};
 
 // Where the parts start.
 pub const PARTS_AT: usize = bundle::PLACES + 2 * bundle::DEFINITIONS + 1;
@@ -142,6 +143,34 @@ pub fn index_of(places: &[u16], i: usize, last: bool, x: u16) -> usize
     let n = places[a] as usize;
     let d = places[a + 1] as usize;
     index_in(places, a, n, d, last, x)
+}
+
+// One more than the index of the last of the `n` places at `at` that hold `x`, and 0 where none does.
+fn last_in(t: &[u16], at: usize, n: usize, x: usize) -> usize
+    requires { ⌜ at + n ≤ length (now t) ⌝ }
+    ensures { λ r. ⌜ LastIn (now (t .entry)) at n x r ⌝ }
+{
+    let mut k = n;
+    while k != 0 {
+        if t[at + (k - 1)] as usize == x {
+            return k;
+        }
+        k -= 1;
+    }
+    0
+}
+
+// One more than the index of the last field of definition `i` that leads where `lead` says, and 0 where there is none.
+pub fn last_lead(s: &[u8], places: &[u16], count: usize, i: usize, lead: usize) -> usize
+    requires { ⌜ Table (now s) count (now places) × Noted (now s) (now places) count × (i < count) ⌝ }
+    ensures { λ r. ⌜ (r ≡ lastShown 0 0 (lastIndex (leadIs (bundleOf (now (s .entry))) lead) (fieldsAt (now (s .entry)) (now (places .entry)) i))) × (r < 65536) ⌝ }
+{
+    let a = places[bundle::PLACES + i] as usize;
+    if a == 0 {
+        return 0;
+    }
+    let n = places[a] as usize;
+    last_in(places, a + 2 + 5 * n, n, lead)
 }
 
 // Whether in the first definition of the name `container`, if that is a struct the first field that is called `field` stands after the index `j`.

@@ -45,7 +45,7 @@ cast-d c = omega (arith, c .shared-slice-known4 .given (getD (c .before .before 
 
 index-in-requires : tie.Need-index-in-requires
 index-in-requires c κs = let p = (c .before .before .before .before .before .pre .1 .1 .part (omega arith)) in
-    (part-room p .0, part-room p .1, part-table p)
+    (omega (arith, part-room p .0), part-room p .1, part-table p)
 
 returns-2 : tie.Need-returns-2
 returns-2 c ms o = c .index-in .ensures ms (o .part (omega arith)) refl refl

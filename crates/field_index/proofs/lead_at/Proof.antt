@@ -21,9 +21,10 @@ add-result : tie.Need-add-result
 add-result c = omega (arith, lead-few (c .before .before .before .before .before .before .before .pre .0) _ _ (c .definition-of .ensures))
 
 returns-2 : tie.Need-returns-2
-returns-2 c =
-    (lead-some _ _ (c .before .before .before .before .shape-at .result) (c .before .before .before .before .shape-at .ensures) (c .before .before .shape .given .1) (c .definition-of .ensures),
-    omega (arith, lead-few (c .before .before .before .before .before .before .before .pre .0) _ _ (c .definition-of .ensures)))
+returns-2 c = (
+  lead-some _ _ (c .before .before .before .before .shape-at .result) (c .before .before .before .before .shape-at .ensures) (c .before .before .shape .given .1) (c .definition-of .ensures),
+  omega (arith, lead-few (c .before .before .before .before .before .before .before .pre .0) _ _ (c .definition-of .ensures)),
+)
 
 pub lead-at-spec : {M : Type 1} → statement M
 lead-at-spec =
