@@ -1,37 +1,23 @@
 -- The last field of a struct that is a TypeRef to an enum.
-use Prim.Native.Nat.{ℕ, suc, _+_, _≤_, _-_, _<_}
+use Prim.Native.Nat.{ℕ, _+_, _≤_, _-_, _<_}
 use native.Mathlib.Omega.{arith}
-use mathlib.Core.Bool.{Bool, true, false, cond}
-use mathlib.Core.Option.{Option, none, some, Option·map}
-use mathlib.Core.Path.{_≡_, refl, subst, _∙_}
-use mathlib.Core.List.{List, [], _∷_}
-use lib.ListN.{length}
-use Rattle.meaning.specs.Lists.{lastIndex, holds, orElse}
-use Rattle.meaning.specs.Lookup.{listOf, findType}
+use mathlib.Core.Bool.{Bool, true, false}
+use mathlib.Core.Option.{none}
+use mathlib.Core.Path.{_≡_, refl, ap, _∙_}
+use mathlib.Core.List.{List}
+use lib.ListN.{getD}
+use Rattle.meaning.specs.Lists.{lastIndex, holds}
+use Rattle.meaning.specs.Lookup.{asStruct, findType}
 use Rattle.meaning.specs.Sizes.{isEnumWithConstantSizeVariants}
+use Rattle.meaning.specs.Tree.{Ty, primitive, typeRef, struct, union, enum, array, sizeUnion}
 use Rattle.meaning.specs.Violations.{isEnumReferencingSameContainerStruct, structOf}
-use Rattle.bundle.specs.Definitions.{membersAt, bundleOf}
-use Rattle.bundle.proofs.Parts.{members-length}
-use Rattle.field_index.proofs.Widths.{fields-few}
-use Rattle.fields.specs.declared.Fields.{Fields}
-use Rattle.fields.specs.declared.Fields.the-variants as fields
-use Rattle.fields.specs.Shapes.{FieldsAre, FieldsOf}
+use Rattle.bundle.specs.Definitions.{typeAt, bundleOf, Table}
+use Rattle.fields.specs.Shapes.{DefinitionIs}
 use Rattle.fields.specs.Sought.{sought, lastShown}
-use Rattle.containers.specs.Containers.{heldIn, containerShown}
-
--- an index as it is shown is not above the length
-last-below : {A : Type 0} (p : A → Bool) (xs : List A) → lastShown 0 0 (lastIndex p xs) ≤ length xs
-last-below p [] = omega arith
-last-below p (x ∷ xs) = go (lastIndex p xs) (last-below p xs) (p x)
-  where
-    go : (o : Option ℕ) → lastShown 0 0 o ≤ length xs → (t : Bool) → lastShown 0 0 (orElse (Option·map suc o) (cond t (some 0) none)) ≤ suc (length xs)
-    go none l true = omega arith
-    go none l false = omega arith
-    go (some i) l t = omega (arith, l)
-
--- an answer that a `let .. else` has taken apart
-pub struct-no : (s : List ℕ) (x : ℕ) {r : Fields} → r ≡ fields.No → FieldsOf s x r → structOf (bundleOf s) x ≡ none
-struct-no s x e g = subst (FieldsOf s x) e g
+use Rattle.fields.proofs.Lookups.{definition-placed}
+use Rattle.field_index.specs.Noted.{leadIs, fieldsOf, fieldsAt}
+use Rattle.containers.specs.Containers.{LeadFor, lastHeld, heldIn, containerShown}
+use Rattle.containers.proofs.Containing.{last-held}
 
 module _ (s : List ℕ) (e x : ℕ) where
   pub held-constant : true ≡ holds isEnumWithConstantSizeVariants (findType (bundleOf s) e) → 0 ≡ heldIn (bundleOf s) e x
@@ -41,8 +27,20 @@ module _ (s : List ℕ) (e x : ℕ) where
     pub held-none : structOf (bundleOf s) x ≡ none → 0 ≡ heldIn (bundleOf s) e x
     held-none g = rw (← c, g) refl
 
-    pub held-last : {at n r : ℕ} → FieldsAre s x at n → r ≡ lastShown 0 0 (lastIndex (sought true e) (listOf (membersAt 23 0x50 n s at))) → r ≡ heldIn (bundleOf s) e x
-    held-last g p = p ∙ rw (← c, g .is) refl
+    pub held-last : {n : ℕ} {places : List ℕ} → Table s n places → {i at y r : ℕ} → DefinitionIs s n x i at → LeadFor s e y
+        → r ≡ lastShown 0 0 (lastIndex (leadIs (bundleOf s) y) (fieldsAt s places i)) → r ≡ heldIn (bundleOf s) e x
+    unfolding structOf
+    held-last {places = places} t {i} {y = y} d l p =
+        p ∙ ap (lastShown 0 0) (last-held l (fieldsAt s places i)) ∙ rw (← c, definition-placed t d .is) (go (typeAt 24 s (getD places i 0)))
+      where
+        go : (t : Ty) → lastShown 0 0 (lastIndex (sought true e) (fieldsOf t)) ≡ lastHeld e (asStruct t)
+        go (primitive k) = refl
+        go (typeRef n) = refl
+        go (struct a ms) = refl
+        go (union a ms) = refl
+        go (enum a tag ms) = refl
+        go (array a jagged size element) = refl
+        go (sizeUnion a ms) = refl
 
 -- the answer for a name
 pub shown-holds : (s : List ℕ) (e x : ℕ) {r : ℕ} → true ≡ isEnumReferencingSameContainerStruct (bundleOf s) e x → r ≡ heldIn (bundleOf s) e x → r + 2 ≡ containerShown (bundleOf s) e x
@@ -65,8 +63,3 @@ shown-no s e x {r} p l = go (isEnumReferencingSameContainerStruct (bundleOf s) e
     go : (t : Bool) → isEnumReferencingSameContainerStruct (bundleOf s) e x ≡ t → false ≡ t
     go true q = let z : r ≡ heldIn (bundleOf s) e x + 2 = p ∙ rw q refl in absurd (omega arith)
     go false q = refl
-
-pub held-small : {s : List ℕ} {x at n r : ℕ} (e : ℕ) → FieldsAre s x at n → length s ≤ 32768 → r ≡ lastShown 0 0 (lastIndex (sought true e) (listOf (membersAt 23 0x50 n s at))) → r ≤ 32768
-held-small {s} {at = at} {n} e g l p =
-    omega
-    (arith, p, last-below (sought true e) (listOf (membersAt 23 0x50 n s at)), members-length 23 0x50 s n at (g .reads), fields-few s 23 n at (g .reads), l)

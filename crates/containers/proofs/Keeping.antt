@@ -1,5 +1,5 @@
 -- The answers of an enum that are kept.
-use Prim.Native.Nat.{ℕ, zero, suc, _<_}
+use Prim.Native.Nat.{ℕ, zero, suc, _+_, _<_}
 use native.Mathlib.Omega.{arith}
 use native.Mathlib.Decide.{ℕ-discrete}
 use mathlib.Core.Bool.{Bool, true, false}
@@ -14,10 +14,14 @@ use Rattle.meaning.specs.Lists.{holds}
 use Rattle.meaning.specs.Lookup.{definitionOf, findType}
 use Rattle.meaning.specs.Sizes.{isEnumWithConstantSizeVariants}
 use Rattle.bundle.specs.Definitions.{bundleOf, Table}
-use Rattle.containers.specs.Containers.{containerShown, markOf, Known}
+use Rattle.containers.specs.Containers.{LeadFor, containerShown, markOf, Known}
+
+-- the name of the enum is defined
+pub lead-for : {s : List ℕ} {e : ℕ} {known : List ℕ} → Known s e known → {i : ℕ} → i ≡ definitionOf (bundleOf s) e → LeadFor s e (i + 1)
+lead-for k q = record { number = ap (λ i. i + 1) q; defined = k .defined }
 
 -- two names with one first definition are the same
-same-name : (xs : List ℕ) (x y : ℕ) → place xs x ≡ place xs y → place xs y < length xs → x ≡ y
+pub same-name : (xs : List ℕ) (x y : ℕ) → place xs x ≡ place xs y → place xs y < length xs → x ≡ y
 same-name xs x y e h = sym (getD-place xs x (omega (arith, e))) ∙ ap (λ i. getD xs i 0) e ∙ getD-place xs y h
 
 module _ {s : List ℕ} {n : ℕ} {places : List ℕ} (t : Table s n places) {e : ℕ} {known : List ℕ} (k : Known s e known) (i c : ℕ) (d : i ≡ definitionOf (bundleOf s) c) (h : i < n) where
@@ -31,6 +35,7 @@ module _ {s : List ℕ} {n : ℕ} {places : List ℕ} (t : Table s n places) {e 
   known-put {v} p =
       record {
         size = length-set known i v ∙ k .size;
+        defined = k .defined;
         each = λ j m l x q.
             by-cases (ℕ-discrete j i)
             (λ (z : j ≡ i).
@@ -54,6 +59,7 @@ pub known-constant : {s : List ℕ} {e : ℕ} {known : List ℕ} → Known s e k
 known-constant {known = known} k b {m} p q =
     record {
       size = length-set known 256 m ∙ k .size;
+      defined = k .defined;
       each = λ i l h x d.
           let other = getD-set-other known 256 i m 0 (λ z. omega (arith, z)) in
           other ∙ k .each i l (omega (arith, h, other)) x d;
@@ -61,9 +67,9 @@ known-constant {known = known} k b {m} p q =
     }
 
 -- nothing is known yet
-pub known-start : (s : List ℕ) (e : ℕ) → Known s e (replicate 257 0)
-known-start s e =
-    record { size = refl; each = λ i m l. absurd (omega (arith, zeros 257 i, l)); constant = λ b q. absurd (unmarked b (sym (zeros 257 256) ∙ q)) }
+pub known-start : (s : List ℕ) (e : ℕ) → definitionOf (bundleOf s) e < length (bundleOf s .definitions) → Known s e (replicate 257 0)
+known-start s e d =
+    record { size = refl; defined = d; each = λ i m l. absurd (omega (arith, zeros 257 i, l)); constant = λ b q. absurd (unmarked b (sym (zeros 257 256) ∙ q)) }
   where
     zeros : (n i : ℕ) → _≡_ {A = ℕ} (getD (replicate n 0) i 0) 0
     zeros zero i = refl

@@ -1,3 +1,4 @@
 pub mod Keeping
 pub mod Held
 pub mod Before
+pub mod Containing

@@ -1,18 +1,33 @@
 -- What is kept of an enum and the names to which its tag refers.
-use Prim.Native.Nat.{ℕ, _+_, _<_}
+use Prim.Native.Nat.{ℕ, _+_, _-_, _<_}
 use mathlib.Core.Bool.{Bool, true, false, not, cond, _&&_}
 use mathlib.Core.List.{List, [], _∷_}
 use mathlib.Core.Option.{Option, none, some}
 use mathlib.Core.Path.{_≡_}
+use lib.Dec.{eqb}
 use lib.ListN.{length, getD}
 use Rattle.meaning.specs.Limits.{definitionLimit}
-use Rattle.meaning.specs.Lists.{lastIndex, holds}
-use Rattle.meaning.specs.Lookup.{definitionOf, findType}
+use Rattle.meaning.specs.Lists.{any, lastIndex, holds}
+use Rattle.meaning.specs.Lookup.{asStruct, definitionOf, findType, memberType, refersTo}
 use Rattle.meaning.specs.Sizes.{isEnumWithConstantSizeVariants}
-use Rattle.meaning.specs.Tree.{Member, Bundle}
+use Rattle.meaning.specs.Tree.{Ty, Member, Bundle}
 use Rattle.meaning.specs.Violations.{isEnumReferencingSameContainerStruct, standsBefore, structOf}
-use Rattle.bundle.specs.Definitions.{bundleOf}
+use Rattle.meaning.specs.Reader.{little}
+use Rattle.bundle.specs.Definitions.{typeAt, bundleOf}
 use Rattle.fields.specs.Sought.{sought, lastShown}
+
+-- the name e is defined, and x is one more than the number of its first definition
+pub record LeadFor (s : List ℕ) (e x : ℕ) : Type 0 where
+  pub number : x ≡ definitionOf (bundleOf s) e + 1
+  pub defined : definitionOf (bundleOf s) e < length (bundleOf s .definitions)
+
+-- the type is a struct with a field that is a TypeRef to e
+abbrev pub holdsRef : ℕ → Ty → Bool
+holdsRef e t = holds (any (λ m. refersTo e (memberType m))) (asStruct t)
+
+-- definition i has the name x and is such a struct
+abbrev pub containsAt : List ℕ → List ℕ → ℕ → ℕ → ℕ → Bool
+containsAt s places i e x = eqb (little s (getD places i 0 - 2) 2) x && holdsRef e (typeAt 24 s (getD places i 0))
 
 -- one more than the index of the last of a struct's fields that is a TypeRef to e, and 0 where there is none
 abbrev pub lastHeld : ℕ → Option (List Member) → ℕ
@@ -36,9 +51,10 @@ abbrev pub markOf : Bool → ℕ
 markOf true = 2
 markOf false = 1
 
--- `known` has the answers of the enum e, for names by their first definitions, and 0 where one is not known yet; behind them it has whether
+-- the name e is defined; `known` has the answers of the enum e, for names by their first definitions, and 0 where one is not known yet; behind them it has whether
 -- the variants of e are of constant size, 1 for no and 2 for yes
 pub record Known (s : List ℕ) (e : ℕ) (known : List ℕ) : Type 0 where
   pub size : length known ≡ definitionLimit + 1
+  pub defined : definitionOf (bundleOf s) e < length (bundleOf s .definitions)
   pub each : (i : ℕ) → i < definitionLimit → 0 < getD known i 0 → (x : ℕ) → definitionOf (bundleOf s) x ≡ i → getD known i 0 ≡ containerShown (bundleOf s) e x
   pub constant : (t : Bool) → getD known definitionLimit 0 ≡ markOf t → t ≡ holds isEnumWithConstantSizeVariants (findType (bundleOf s) e)

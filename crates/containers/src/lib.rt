@@ -1,15 +1,15 @@
 // Whether an enum is in a struct to which its tag refers, and how far behind: one answer is kept for each name that is referred to.
 use fields::Definition;
-use fields::Fields;
 ghost use mathlib.Core.Path.{_≡_};
 ghost use Prim.Native.Nat.{ℕ, _≤_, _<_};
 ghost use lib.ListN.{length};
 ghost use Rattle.meaning.specs.Lists.{holds};
 ghost use Rattle.meaning.specs.Lookup.{findType};
 ghost use Rattle.meaning.specs.Sizes.{isEnumWithConstantSizeVariants};
+ghost use Rattle.meaning.specs.Violations.{isEnumReferencingSameContainerStruct};
 ghost use Rattle.bundle.specs.Definitions.{bundleOf, Table};
 ghost use Rattle.field_index.specs.Noted.{Noted};
-ghost use Rattle.containers.specs.Containers.{heldIn, containerShown, isBefore, markOf, Known};
+ghost use Rattle.containers.specs.Containers.{LeadFor, containsAt, heldIn, containerShown, isBefore, markOf, Known};
 
 // Answers that are kept: one for each definition's name, and one for the enum.
 pub const KNOWN: usize = bundle::DEFINITIONS + 1;
@@ -38,6 +38,40 @@ fn is_constant(s: &[u8], places: &[u16], count: usize, known: &mut [u16; KNOWN],
     constant
 }
 
+// Whether definition `i` has the name `container` and is a struct with a field that leads where `lead` says.
+fn contains(s: &[u8], places: &[u16], count: usize, i: usize, lead: usize, container: u16) -> bool
+    requires { ⌜ Table (now s) count (now places) × Noted (now s) (now places) count × (i < count) ⌝ }
+    ensures { λ r. ⌜ ((e : ℕ) → LeadFor (now (s .entry)) e lead → r ≡ containsAt (now (s .entry)) (now (places .entry)) i e container) ⌝ }
+{
+    let place = fields::place_of(s, places, count, i);
+    if place.name != container {
+        return false;
+    }
+    0 < field_index::last_lead(s, places, count, i, lead)
+}
+
+// Whether some definition of the name `container`, from the first on, is a struct with a field that is a TypeRef to the enum, to whose
+// first definition `lead` leads.
+fn is_enum_referencing_same_container_struct(
+    s: &[u8],
+    places: &[u16],
+    count: usize,
+    lead: usize,
+    container: u16,
+) -> bool
+    requires { ⌜ Table (now s) count (now places) × Noted (now s) (now places) count ⌝ }
+    ensures { λ r. ⌜ ((e : ℕ) → LeadFor (now (s .entry)) e lead → r ≡ isEnumReferencingSameContainerStruct (bundleOf (now (s .entry))) e container) ⌝ }
+{
+    let mut i = lookup::definition_of(s, places, count, container);
+    while i < count {
+        if contains(s, places, count, i, lead, container) {
+            return true;
+        }
+        i += 1;
+    }
+    false
+}
+
 // One more than the index of the last field that is a TypeRef to the enum, in the first definition of the name `container`, if that is a
 // struct; 0 where there is none, or where the enum's variants are of constant size.
 fn held_in(
@@ -46,19 +80,20 @@ fn held_in(
     count: usize,
     known: &mut [u16; KNOWN],
     name: u16,
+    lead: usize,
     container: u16,
 ) -> usize
-    requires { ⌜ Table (now s) count (now places) × (length (now s) ≤ 32768) × Known (now s) name (now known) ⌝ }
+    requires { ⌜ Table (now s) count (now places) × Noted (now s) (now places) count × (length (now s) ≤ 32768) × Known (now s) name (now known) × LeadFor (now s) name lead ⌝ }
     ensures { λ r. ⌜ (r ≡ heldIn (bundleOf (now (s .entry))) name container) × (r ≤ 32768) × Known (now (s .entry)) name (now (known .exit)) ⌝ }
 {
     if is_constant(s, places, count, known, name) {
         return 0;
     }
-    let found = fields::struct_of(s, places, count, container);
-    let Fields::Of(at, n) = found else {
+    let found = fields::find_definition(s, places, count, container);
+    let Definition::At(i, _) = found else {
         return 0;
     };
-    fields::last_field(s, at, bundle::DEPTH_INSIDE, n, true, name)
+    field_index::last_lead(s, places, count, i, lead)
 }
 
 // Two more than that, where some definition of the name is a struct with a field that is a TypeRef to the enum; 1 where none is.
@@ -70,11 +105,12 @@ fn answer_for(
     name: u16,
     container: u16,
 ) -> usize
-    requires { ⌜ Table (now s) count (now places) × (length (now s) ≤ 32768) × Known (now s) name (now known) ⌝ }
+    requires { ⌜ Table (now s) count (now places) × Noted (now s) (now places) count × (length (now s) ≤ 32768) × Known (now s) name (now known) ⌝ }
     ensures { λ r. ⌜ (r ≡ containerShown (bundleOf (now (s .entry))) name container) × (0 < r) × (r ≤ 32770) × Known (now (s .entry)) name (now (known .exit)) ⌝ }
 {
-    if fields::is_enum_referencing_same_container_struct(s, places, count, name, container) {
-        return held_in(s, places, count, known, name, container) + 2;
+    let lead = lookup::definition_of(s, places, count, name) + 1;
+    if is_enum_referencing_same_container_struct(s, places, count, lead, container) {
+        return held_in(s, places, count, known, name, lead, container) + 2;
     }
     1
 }
@@ -95,7 +131,7 @@ pub fn container_of(
     name: u16,
     container: u16,
 ) -> usize
-    requires { ⌜ Table (now s) count (now places) × (length (now s) ≤ 32768) × Known (now s) name (now known) ⌝ }
+    requires { ⌜ Table (now s) count (now places) × Noted (now s) (now places) count × (length (now s) ≤ 32768) × Known (now s) name (now known) ⌝ }
     ensures { λ r. ⌜ (r ≡ containerShown (bundleOf (now (s .entry))) name container) × (0 < r) × Known (now (s .entry)) name (now (known .exit)) ⌝ }
 {
     let i = lookup::definition_of(s, places, count, container);

@@ -20,7 +20,7 @@ use Rattle.fields.proofs.Lookups.{definition-placed}
 use Rattle.field_index.specs.Noted.{startsAt, fieldsOf, fieldsAt, indexShown, Noted}
 
 -- a test that no empty list passes, of the fields of a struct
-holds-fields : (f : List Member → Bool) → f [] ≡ false → (t : Ty) → holds f (asStruct t) ≡ f (fieldsOf t)
+pub holds-fields : (f : List Member → Bool) → f [] ≡ false → (t : Ty) → holds f (asStruct t) ≡ f (fieldsOf t)
 holds-fields f e (primitive k) = sym e
 holds-fields f e (typeRef n) = sym e
 holds-fields f e (struct a ms) = refl

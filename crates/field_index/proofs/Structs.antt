@@ -53,7 +53,7 @@ struct-empty at s {n} g z = struct-fields at s g ∙ ap listOf (members-none 23 
 pub below-start : {s : List ℕ} (places : List ℕ) → length s ≤ 32768 → 2 * partsAt + 3 * length s ≤ 2 * length places → NotedBelow s places 0 partsAt
 below-start places short size =
     record {
-      noted = record { size = omega arith; each = λ i l. absurd (omega arith); leads = λ i l _. absurd (omega arith) };
+      noted = record { size = omega arith; each = λ i l. absurd (omega arith); leads = λ i l _. absurd (omega arith); few = λ i l. absurd (omega arith) };
       from = omega arith;
       room = omega arith;
       size = size;
@@ -107,10 +107,10 @@ module _ {s : List ℕ} {count : ℕ} {places : List ℕ} (t : Table s count pla
     -- the fields of definition i are noted up to a place
     pub below-next : {used′ : ℕ} → NotedFor (fieldsAt s places i) u (partOf u i)
         → (0 < partOf u i → LeadsTo (leadsOf (bundleOf s) (fieldsAt s places i)) u (partOf u i) (length (fieldsAt s places i)) (length (fieldsAt s places i)))
-        → used ≤ used′ → 2 * used′ + 6 * (referencesTo s places i + length (referencesOf s places i)) ≤ 2 * partsAt + 3 * getD places (i + 1) 0
+        → 4 * length (fieldsAt s places i) ≤ length s → used ≤ used′ → 2 * used′ + 6 * (referencesTo s places i + length (referencesOf s places i)) ≤ 2 * partsAt + 3 * getD places (i + 1) 0
         → (0 < partOf u i → (partsAt ≤ partOf u i) × (partOf u i + 2 + 6 * length (fieldsAt s places i) ≤ used′))
         → NotedBelow s u (i + 1) used′ × Behind places u
-    below-next {used′} here leads more room part = (
+    below-next {used′} here leads small more room part = (
       record {
         noted = record {
           size = omega (arith, long, o .noted .size);
@@ -120,6 +120,9 @@ module _ {s : List ℕ} {count : ℕ} {places : List ℕ} (t : Table s count pla
           leads = λ j c.
               by-cases (decLt j i) (leads-kept j)
               (λ (n : ¬ (j < i)). let z : j ≡ i = omega arith in rw (z, fields-stay i (omega (arith, few))) leads);
+          few = λ j c.
+              rw (fields-stay j (omega (arith, few)))
+              (by-cases (decLt j i) (o .noted .few j) (λ (n : ¬ (j < i)). let z : j ≡ i = omega arith in rw z small));
         };
         from = omega (arith, o .from);
         room =
@@ -145,7 +148,7 @@ module _ {s : List ℕ} {count : ℕ} {places : List ℕ} (t : Table s count pla
       let here : getD (set places (startsAt + i) 0) (startsAt + i) 0 ≡ 0 = getD-set-same places (startsAt + i) 0 0 there in
       below-next (set places (startsAt + i) 0) (length-set places (startsAt + i) 0) (λ j c ne. getD-set-other places (startsAt + i) j 0 0 ne)
       (rw here (record { none = λ _. e; part = λ c. absurd (omega arith) })) (λ c. absurd (omega (arith, here, c)))
-      (omega arith) (omega (arith, o .room, place-next t l)) (λ c. absurd (omega (arith, here, c)))
+      (omega (arith, ap length e)) (omega arith) (omega (arith, o .room, place-next t l)) (λ c. absurd (omega (arith, here, c)))
 
   -- it is a struct with n fields, noted behind the other parts
   pub below-struct : {n : ℕ} {u : List ℕ} → StructAt 24 s (getD places i 0) n → Part (fields s (getD places i 0 + 12) n) u used
@@ -161,7 +164,7 @@ module _ {s : List ℕ} {count : ℕ} {places : List ℕ} (t : Table s count pla
       below-next u long
       (λ j c ne. w .before j c ∙ getD-set-other (set places k 0) k j used 0 ne ∙ getD-set-other places k j 0 0 ne)
       (rw (here, is) (record { none = λ z. absurd (omega (arith, z, o .from)); part = λ _. p })) (λ _. rw (here, is, count) leads)
-      (omega arith) (omega (arith, o .room, struct-wide t l g .0))
+      (omega (arith, ap length is, count, struct-wide t l g .1)) (omega arith) (omega (arith, o .room, struct-wide t l g .0))
       (λ _. rw (here, is, count) (o .from, omega arith))
 
 pub below-end : {s places : List ℕ} {n i used : ℕ} → i ≡ n → NotedBelow s places i used → NotedBelow s places n used

@@ -132,6 +132,7 @@ pub record Noted (s places : List ℕ) (n : ℕ) : Type 0 where
   pub each : (i : ℕ) → i < n → NotedFor (fieldsAt s places i) places (partOf places i)
   pub leads : (i : ℕ) → i < n → 0 < partOf places i
       → LeadsTo (leadsOf (bundleOf s) (fieldsAt s places i)) places (partOf places i) (length (fieldsAt s places i)) (length (fieldsAt s places i))
+  pub few : (i : ℕ) → i < n → 4 * length (fieldsAt s places i) ≤ length s
 
 -- the same in the first `used` places; the parts, and three for each reference, take at most three for every two bytes before definition n
 pub record NotedBelow (s places : List ℕ) (n used : ℕ) : Type 0 where

@@ -163,7 +163,7 @@ fn last_in(t: &[u16], at: usize, n: usize, x: usize) -> usize
 // One more than the index of the last field of definition `i` that leads where `lead` says, and 0 where there is none.
 pub fn last_lead(s: &[u8], places: &[u16], count: usize, i: usize, lead: usize) -> usize
     requires { ⌜ Table (now s) count (now places) × Noted (now s) (now places) count × (i < count) ⌝ }
-    ensures { λ r. ⌜ (r ≡ lastShown 0 0 (lastIndex (leadIs (bundleOf (now (s .entry))) lead) (fieldsAt (now (s .entry)) (now (places .entry)) i))) × (r < 65536) ⌝ }
+    ensures { λ r. ⌜ (r ≡ lastShown 0 0 (lastIndex (leadIs (bundleOf (now (s .entry))) lead) (fieldsAt (now (s .entry)) (now (places .entry)) i))) × (4 * r ≤ length (now (s .entry))) ⌝ }
 {
     let a = places[bundle::PLACES + i] as usize;
     if a == 0 {

@@ -6,13 +6,10 @@ use native.Mathlib.Omega.{arith}
 use mathlib.Core.Bool.{Bool, false}
 use mathlib.Core.Option.{Option, none, some}
 use mathlib.Core.Path.{_≡_, refl, sym, ap, subst, _∙_}
-use mathlib.Core.List.{List, [], _∷_}
-use types.Run.{OneOf}
-use denote.Enum.Declared.{tagOf}
+use mathlib.Core.List.{List}
 use lib.Dec.{ltb}
 use lib.ListN.{getD}
 use borrow.Author.Tests.{lt-ltb, le-ltb}
-use Rattle.meaning.specs.Tree.{Member}
 use Rattle.meaning.specs.Lists.{holds, precedes}
 use Rattle.meaning.specs.Lookup.{definitionOf, findType}
 use Rattle.meaning.specs.Sizes.{isEnumWithConstantSizeVariants}
@@ -20,15 +17,10 @@ use Rattle.meaning.specs.Violations.{structOf}
 use Rattle.bundle.specs.Definitions.{typeAt, bundleOf, Table}
 use Rattle.bundle.proofs.LookupLaws.{placed-at, found-type}
 use Rattle.fields.specs.declared.Place.{Place}
-use Rattle.fields.specs.declared.Shape.{Shape}
 use Rattle.fields.specs.declared.Definition.{Definition}
 use Rattle.fields.specs.declared.Definition.the-variants as definition
-use Rattle.fields.specs.declared.Fields.{Fields}
-use Rattle.fields.specs.declared.Fields.the-variants as fields
-use Rattle.fields.specs.Shapes.{StructAt, ShapeOf, PlacedAt, DefinitionIs, Defines, FieldsAre, FieldsOf}
+use Rattle.fields.specs.Shapes.{PlacedAt, DefinitionIs, Defines}
 use Rattle.fields.specs.Sought.{lastShown}
-use Rattle.fields.proofs.Shape.{the-type}
-use Rattle.fields.proofs.ShapeLaws.{shape-other}
 use Rattle.fields.proofs.Walking.{placed-reads}
 
 -- definition i is the first of its name
@@ -48,26 +40,12 @@ definition-at s n x e g = subst (Defines s n x) e g
 pub definition-no : (s : List ℕ) (n x : ℕ) {r : Definition} → r ≡ definition.Nowhere → Defines s n x r → findType (bundleOf s) x ≡ none
 definition-no s n x e g = subst (Defines s n x) e g
 
-pub fields-at : (s : List ℕ) (x : ℕ) {r : Fields} {at n : ℕ} → r ≡ fields.Of at n → FieldsOf s x r → FieldsAre s x at n
-fields-at s x e g = subst (FieldsOf s x) e g
-
-pub fields-no : (s : List ℕ) (x : ℕ) {r : Fields} → r ≡ fields.No → FieldsOf s x r → (f : List Member → Bool) → false ≡ holds f (structOf (bundleOf s) x)
-fields-no s x e g f = let h : structOf (bundleOf s) x ≡ none = subst (FieldsOf s x) e g in rw h
-
 -- the fields of the first definition of a name
 pub struct-none : (s : List ℕ) (x : ℕ) → findType (bundleOf s) x ≡ none → structOf (bundleOf s) x ≡ none
 unfolding structOf
 struct-none s x e = rw e
 
 module _ {s : List ℕ} {m x i at : ℕ} (g : DefinitionIs s m x i at) where
-  pub struct-not : (r : Shape) → OneOf (1 ∷ 2 ∷ 3 ∷ 4 ∷ []) (tagOf the-type r) → ShapeOf 24 s at r → structOf (bundleOf s) x ≡ none
-  unfolding structOf
-  struct-not r o h = rw (g .is) (shape-other 24 at s r o h)
-
-  pub struct-fields : {n : ℕ} → StructAt 24 s at n → FieldsAre s x (at + 12) n
-  unfolding structOf
-  struct-fields h = record { reads = h .reads; is = rw (g .is, h .tree) }
-
   pub constant-found : (t : Bool) → t ≡ isEnumWithConstantSizeVariants (typeAt 24 s at) → t ≡ holds isEnumWithConstantSizeVariants (findType (bundleOf s) x)
   constant-found t e = e ∙ rw (g .is)
 

@@ -1,18 +1,16 @@
 -- A type or field that was read, as its shape shows it.
 use Prim.Native.Nat.{ℕ, _+_, _-_, _≤_}
 use native.Mathlib.Omega.{arith}
-use mathlib.Core.Bool.{Bool, true, false, false≢true}
+use mathlib.Core.Bool.{true, false≢true}
 use mathlib.Core.Option.{none}
 use types.Run.{OneOf, miss}
 use denote.Enum.Declared.{tagOf}
 use mathlib.Core.Path.{_≡_, refl, sym, ap, subst, _∙_}
 use mathlib.Core.List.{List, [], _∷_}
-use lib.Dec.{eqb}
 use lib.ListN.{length, getD}
 use borrow.Author.Tests.{eq-eqb}
 use Rattle.meaning.specs.Kinds.{Form, OfType, Primitive, TypeRef, Struct, Union, Enum, Array, SizeUnion}
 use Rattle.meaning.specs.Tree.{Ty, primitive, typeRef, struct, union, enum, array, sizeUnion, member}
-use Rattle.meaning.specs.Lists.{holds}
 use Rattle.meaning.specs.Lookup.{asTypeRef, asStruct}
 use Rattle.meaning.specs.Reader.{Read, ok, refused, due, little}
 use Rattle.meaning.specs.ReadExpr.{body, readExpr}
@@ -32,7 +30,6 @@ use Rattle.bundle.proofs.Parts.{struct-parts, enum-at, array-at}
 use Rattle.fields.specs.declared.Shape.{Shape}
 use Rattle.fields.specs.declared.Shape.the-variants as shape
 use Rattle.fields.specs.Shapes.{StructAt, EnumAt, ArrayAt, isPlain, ShapeOf, refShown, FieldAt}
-use Rattle.fields.specs.Sought.{isSought}
 use Rattle.fields.proofs.Shape.{the-type}
 
 -- a name that was read
@@ -165,11 +162,3 @@ shape-other d at s shape.Plain o g = plain-struct (typeAt d s at) g
 -- what is known of a shape that is a struct
 pub shape-struct : (d at : ℕ) (s : List ℕ) {r : Shape} {n : ℕ} → r ≡ shape.Struct n → ShapeOf d s at r → StructAt d s at n
 shape-struct d at s e g = subst (ShapeOf d s at) e g
-
--- a field that is sought by its type, and one that is sought by its name
-pub sought-type : (d at : ℕ) (s : List ℕ) (byType : Bool) (x n : ℕ) (r : Shape) (hit : Bool) → byType ≡ true → ShapeOf d s at r → hit ≡ holds (eqb x) (refShown r)
-    → hit ≡ isSought byType x n (typeAt d s at)
-sought-type d at s byType x n r hit e g h = rw e (h ∙ ap (holds (eqb x)) (sym (shape-ref d at s r g)))
-
-pub sought-name : (d at : ℕ) (s : List ℕ) (byType : Bool) (x n : ℕ) → byType ≡ false → eqb x n ≡ isSought byType x n (typeAt d s at)
-sought-name d at s byType x n e = rw e

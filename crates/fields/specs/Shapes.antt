@@ -11,10 +11,7 @@ use Rattle.fields.specs.declared.Field.{Field}
 use Rattle.fields.specs.declared.Place.{Place}
 use Rattle.fields.specs.declared.Definition.{Definition}
 use Rattle.fields.specs.declared.Definition.the-variants as definition
-use Rattle.fields.specs.declared.Fields.{Fields}
-use Rattle.fields.specs.declared.Fields.the-variants as fields
-use Rattle.meaning.specs.Lookup.{listOf, definitionOf, findType}
-use Rattle.meaning.specs.Violations.{structOf}
+use Rattle.meaning.specs.Lookup.{definitionOf, findType}
 use Rattle.meaning.specs.Tree.{Attributes, Ty, primitive, typeRef, struct, union, enum, array, sizeUnion, Member, member, Members}
 use Rattle.meaning.specs.Reader.{little}
 use Rattle.meaning.specs.ReadExpr.{readExpr}
@@ -99,13 +96,3 @@ pub record DefinitionIs (s : List ℕ) (n x i at : ℕ) : Type 0 where
 abbrev pub Defines : List ℕ → ℕ → ℕ → Definition → Type 0
 Defines s n x (definition.At i at) = DefinitionIs s n x i at
 Defines s n x definition.Nowhere = findType (bundleOf s) x ≡ none
-
--- the first definition of the name x is a struct with n fields at a position
-pub record FieldsAre (s : List ℕ) (x at n : ℕ) : Type 0 where
-  pub reads : Reads (readMembers (readTy 23) 0x50 n s at)
-  pub is : structOf (bundleOf s) x ≡ some (listOf (membersAt 23 0x50 n s at))
-
--- what is answered to a search for the fields of the first definition of the name x
-abbrev pub FieldsOf : List ℕ → ℕ → Fields → Type 0
-FieldsOf s x (fields.Of at n) = FieldsAre s x at n
-FieldsOf s x fields.No = structOf (bundleOf s) x ≡ none

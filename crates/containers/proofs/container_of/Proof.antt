@@ -25,7 +25,7 @@ size-of-requires c κs = search needs
 
 returns-2 : tie.Need-returns-2
 returns-2 c = let a = c .before .before .before .before .before .before .before in
-    (c .size-of .ensures ∙ known-is (a .pre .0) (a .pre .2) (c .before .before .before .before .definition-of .result) (a .args .container) (c .before .before .before .before .definition-of .ensures) (omega (arith, c .before .before .before .if1 .left)) (c .before .if2 .taken), omega (arith, c .size-of .ensures, c .before .if2 .taken), a .pre .2)
+    (c .size-of .ensures ∙ known-is (a .pre .0) (a .pre .3) (c .before .before .before .before .definition-of .result) (a .args .container) (c .before .before .before .before .definition-of .ensures) (omega (arith, c .before .before .before .if1 .left)) (c .before .if2 .taken), omega (arith, c .size-of .ensures, c .before .if2 .taken), a .pre .3)
 
 answer-for-requires-2 : tie.Need-answer-for-requires-2
 answer-for-requires-2 c κs = search needs

@@ -45,7 +45,7 @@ last-in-requires c κs = omega (arith, part-room (c .before .before .before .bef
 
 returns-2 : tie.Need-returns-2
 returns-2 c = let a = c .before .before .before .before .before .before in
-    (lead-part (a .pre .1) (a .pre .2) _ (omega arith) (c .last-in .ensures), omega (arith, c .last-in .ensures .within, c .before .shared-slice-known4 .given (getD (a .args .places .now) (2050 + a .args .i) 0)))
+    (lead-part (a .pre .1) (a .pre .2) _ (omega arith) (c .last-in .ensures), omega (arith, c .last-in .ensures .within, a .pre .1 .few _ (a .pre .2), a .pre .1 .each _ (a .pre .2) .part (omega arith) .count))
 
 pub last-lead-spec : {M : Type 1} → statement M
 last-lead-spec =
