@@ -81,7 +81,7 @@ startsAt = placesEnd
 
 -- where the parts start
 abbrev pub partsAt : ℕ
-partsAt = startsAt + definitionLimit
+partsAt = startsAt + definitionLimit + definitionLimit + 1
 
 -- the fields of n definitions are noted
 pub record Noted (s places : List ℕ) (n : ℕ) : Type 0 where

@@ -20,7 +20,7 @@ ghost use Rattle.table.specs.Table.{Members, Within};
 ghost use Rattle.field_index.specs.Noted.{nameAt, tableAt, startsAt, partsAt, NotedTo, Part, NotedFor, indexShown, Noted, NotedBelow, Behind};
 
 // Where the parts start.
-pub const PARTS_AT: usize = bundle::PLACES + bundle::DEFINITIONS;
+pub const PARTS_AT: usize = bundle::PLACES + 2 * bundle::DEFINITIONS + 1;
 
 // Notes that field `k` of the `n` has the name `x`, in the part at `a` with `d` names. Returns how many names there are then.
 fn note_name(notes: &mut [u16], a: usize, n: usize, d: usize, k: usize, x: u16) -> usize
