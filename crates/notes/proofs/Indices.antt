@@ -73,10 +73,10 @@ shown-bound test (m ∷ ms) = go (test m) (shown-bound test ms)
     go true h = omega arith
     go false h = omega (arith, shown-next (firstIndex test ms))
 
-pub index-small : {s places : List ℕ} {n : ℕ} → Noted s places n → {i : ℕ} → i < n → getD places (getD places (startsAt + i) 0) 0 < 65536 → (f : ℕ) → indexShown false f (fieldsAt s places i) < 65536
+pub index-small : {s places : List ℕ} {n : ℕ} → Noted s places n → {i : ℕ} → i < n → ((k : ℕ) → getD places k 0 < 65536) → (f : ℕ) → indexShown false f (fieldsAt s places i) < 65536
 index-small {s} {places} o {i} c l f =
     by-cases (decLt 0 (getD places (startsAt + i) 0))
-    (λ (h : 0 < getD places (startsAt + i) 0). omega (arith, shown-bound (sought false f) (fieldsAt s places i), o .each i c .part h .count))
+    (λ (h : 0 < getD places (startsAt + i) 0). omega (arith, shown-bound (sought false f) (fieldsAt s places i), o .each i c .part h .count, l (getD places (startsAt + i) 0)))
     (λ (h : ¬ (0 < getD places (startsAt + i) 0)).
     let no : fieldsAt s places i ≡ [] = o .each i c .none (omega arith) in
     rw no (omega arith))

@@ -109,11 +109,11 @@ fn list_definition(s: &[u8], places: &mut [u16], layout: Layout, i: usize, used:
     ensures { λ r. ⌜ Lists (now (s .entry)) (now (places .exit)) r used (neededOf (now (s .entry)) (now (places .entry)) i) × Within used r (now (places .entry)) (now (places .exit)) ⌝ }
 {
     let place = fields::place_of(s, places, layout.definitions, i);
-    if !needs_references(s, place.at) {
-        return used;
+    if needs_references(s, place.at) {
+        let end = fields::end_of(s, places, layout.definitions, i);
+        return list_from(s, places, layout, place.at, end, used);
     }
-    let end = fields::end_of(s, places, layout.definitions, i);
-    list_from(s, places, layout, place.at, end, used)
+    used
 }
 
 // Lists the references that each definition needs, behind the notes of the fields, which end at `used`.

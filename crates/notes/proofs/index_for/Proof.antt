@@ -1,7 +1,7 @@
 -- `notes::index_for` meets its contract.
 use native.Mathlib.Omega.{arith}
 use lib.ListN.{getD}
-use Prim.Native.Nat.{_+_, _<_}
+use Prim.Native.Nat.{ℕ, _<_}
 use Rattle.checks.proofs.ChainChecks.{part-is, part-other}
 use Rattle.fields.proofs.Lookups.{definition-at, definition-no}
 use Rattle.notes.proofs.Indices.{index-other, index-nowhere, index-found, index-small, noted-there}
@@ -48,8 +48,8 @@ cast-result : tie.Need-cast-result
 cast-result c = 
     let a = c .before .before .before .before .before .before .before .before .before .before .before in
     let d = definition-at _ _ _ (c .before .before .found .given .1) (c .before .before .before .before .find-definition .ensures) in
-    let small : getD (a .args .places .now) (getD (a .args .places .now) (2050 + c .before .before .found .i) 0) 0 < 65536 = omega (arith, c .before .before .before .before .before .before .before .before .before .shared-slice-known2 .given (getD (a .args .places .now) (2050 + c .before .before .found .i) 0)) in
-    omega (arith, index-small (a .pre .3) (d .below) small, c .index-of .ensures _ (a .pre .3 .each _ (d .below)))
+    let small : (k : ℕ) → getD (a .args .places .now) k 0 < 65536 = λ k. omega (arith, c .before .before .before .before .before .before .before .before .before .shared-slice-known2 .given k) in
+    omega (arith, index-small (a .pre .3) (d .below) small (c .before .before .before .before .before .before .part .given .0 .0), c .index-of .ensures _ (a .pre .3 .each _ (d .below)))
 
 returns-3 : tie.Need-returns-3
 returns-3 c = 

@@ -1,3 +1,8 @@
+-- `notes::put_entry` meets its contract.
+use native.Mathlib.Omega.{arith}
+use lib.ListN.{length-set}
+use Rattle.checks.proofs.ChainChecks.{graph-of, type-part}
+use Rattle.notes.proofs.Entries.{entry-put}
 use borrow.Author.Needs.{needs}
 use Rattle.notes.proofs.put_entry.Statement.{statement}
 use Rattle.notes.proofs.put_entry.Tie as tie
@@ -6,57 +11,48 @@ use Rattle.notes.proofs.put_entry.Lts as lts
 use Rattle.notes.proofs.index_for.Reads as index-for-reads
 use Rattle.sizes.proofs.parse_field_reference.Reads as parse-field-reference-reads
 
--- src/lib.rt:74:9
 parse-field-reference-requires : tie.Need-parse-field-reference-requires
 parse-field-reference-requires c κs = search needs
 
--- src/lib.rt:75:9
 index-for-requires : tie.Need-index-for-requires
-index-for-requires c κs = ?
+index-for-requires c κs = 
+    let a = c .before .before .before .before in
+    (a .pre .0 .table, a .pre .2, type-part (graph-of (a .pre .0)) _ _ (c .before .parse-field-reference .ensures), a .pre .1 .noted)
 
--- src/lib.rt:76:5
 mul-places : tie.Need-mul-places
 mul-places c = search needs
 
--- src/lib.rt:76:5
 slice-write-places : tie.Need-slice-write-places
 slice-write-places c = search needs
 
--- src/lib.rt:77:12
 add-places : tie.Need-add-places
 add-places c = search needs
 
--- src/lib.rt:77:5
 mul-places-2 : tie.Need-mul-places-2
 mul-places-2 c = search needs
 
--- src/lib.rt:77:5
 slice-write-places-2 : tie.Need-slice-write-places-2
-slice-write-places-2 c = ?
+slice-write-places-2 c = simp length-set (omega arith)
 
--- src/lib.rt:78:24
 cast-places : tie.Need-cast-places
 cast-places c = search needs
 
--- src/lib.rt:78:12
 add-places-2 : tie.Need-add-places-2
 add-places-2 c = search needs
 
--- src/lib.rt:78:5
 mul-places-3 : tie.Need-mul-places-3
 mul-places-3 c = search needs
 
--- src/lib.rt:78:5
 slice-write-places-3 : tie.Need-slice-write-places-3
-slice-write-places-3 c = ?
+slice-write-places-3 c = simp length-set (omega arith)
 
--- src/lib.rt:70:1
 same-length : tie.Need-same-length
 same-length c = search needs
 
--- src/lib.rt:70:1
 returns : tie.Need-returns
-returns c = ?
+returns c = 
+    let a = c .before .before .before .before .before in
+    entry-put _ _ _ _ _ (omega (arith, a .pre .3 .there)) _ (type-part (graph-of (a .pre .0)) _ _ (c .before .before .parse-field-reference .ensures)) (c .index-for .ensures)
 
 pub put-entry-spec : {M : Type 1} → statement M
 put-entry-spec =
