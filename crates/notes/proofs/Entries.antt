@@ -1,20 +1,18 @@
 -- References are listed one after the other.
 --     entry-put           the three places of one
 --     walk-start, -next, -end   the walk over those of a run
-use Prim.Native.Nat.{ℕ, suc, _+_, _*_, _≤_, _<_}
-use mathlib.Core.Path.{_≡_, refl, sym, ap, subst, _∙_}
-use mathlib.Core.List.{List, [], _∷_}
+use Prim.Native.Nat.{ℕ, _+_, _*_, _≤_, _<_}
+use mathlib.Core.Path.{_≡_, refl, ap, _∙_}
+use mathlib.Core.List.{List, []}
 use native.Mathlib.Omega.{arith}
 use lib.ListN.{length, length-set, getD, set}
 use lib.Seq.{getD-set-same, getD-set-other}
-use Rattle.bundle.specs.declared.Layout.{Layout}
 use Rattle.bundle.specs.Definitions.{bundleOf}
-use Rattle.bundle.specs.Opened.{LayoutOf}
 use Rattle.table.specs.Table.{Within}
 use Rattle.sizes.specs.Scan.{referencesFrom, Fits}
 use Rattle.checks.specs.Checks.{targetAt, typePart, ReferenceIs}
 use Rattle.notes.specs.Notes.{indexFor, Entry, Lists}
-use Rattle.notes.specs.Listing.{Room, FieldsBelow}
+use Rattle.notes.specs.Listing.{Room}
 use Rattle.notes.proofs.Stays.{entry-same}
 
 module _ (t : List ℕ) (a p x k : ℕ) (there : a + 3 ≤ length t) where

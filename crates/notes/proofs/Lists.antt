@@ -3,27 +3,26 @@
 --     none-listed, all-listed      one that needs no references, one that needs all
 --     listing-start, -next, -end   the walk over the definitions
 use Prim.Native.Nat.{ℕ, zero, suc, _+_, _-_, _*_, _≤_, _<_}
-use mathlib.Core.Path.{_≡_, refl, sym, ap, ap₂, subst, _∙_}
+use mathlib.Core.Path.{_≡_, refl, sym, ap, ap₂, _∙_}
 use mathlib.Core.Logic.{by-cases}
 use mathlib.Core.Bool.{Bool, true, false, cond}
-use mathlib.Core.List.{List, [], _∷_}
+use mathlib.Core.List.{List, []}
 use native.Mathlib.Omega.{arith}
 use native.Mathlib.Numerals.{add-one}
 use native.Mathlib.Decide.{decLt}
-use lib.ListN.{length, length-set, getD, set}
+use lib.ListN.{length, getD, set}
 use lib.Seq.{getD-set-same, getD-set-other}
-use Rattle.meaning.specs.Limits.{definitionLimit}
 use Rattle.meaning.specs.ReadType.{readTy}
 use Rattle.bundle.specs.declared.Layout.{Layout}
 use Rattle.bundle.specs.declared.Step.the-variants.{Next}
 use Rattle.bundle.specs.View.{stepOf}
-use Rattle.bundle.specs.Definitions.{typeAt, bundleOf, Table}
+use Rattle.bundle.specs.Definitions.{typeAt, Table}
 use Rattle.bundle.specs.Opened.{LayoutOf}
 use Rattle.table.specs.Table.{Within}
 use Rattle.sizes.specs.Scan.{referencesFrom, Fits}
 use Rattle.sizes.proofs.ReferenceLaws.{type-fits}
 use Rattle.field_index.specs.Noted.{partsAt}
-use Rattle.notes.specs.Notes.{needsReferences, referencesOf, neededOf, Lists, listsAt, listStart, Listed, Noted}
+use Rattle.notes.specs.Notes.{needsReferences, referencesOf, neededOf, Lists, listsAt, listStart, Noted}
 use Rattle.notes.specs.Listing.{refsTo, Room, FieldsBelow}
 use Rattle.notes.proofs.Stays.{Kept, kept-within, kept-start, kept-both, layout-kept, fields-kept, fields-more, lists-length, lists-same}
 

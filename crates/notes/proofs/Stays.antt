@@ -3,18 +3,18 @@
 --     kept-refl, -within, -start     what keeps them
 --     layout-kept, fields-kept       what stays with them
 --     lists-length, lists-same       a list
-use Prim.Native.Nat.{ℕ, zero, suc, _+_, _*_, _≤_, _<_}
-use mathlib.Core.Path.{_≡_, refl, sym, ap, _∙_}
+use Prim.Native.Nat.{ℕ, _+_, _*_, _≤_, _<_}
+use mathlib.Core.Path.{_≡_, ap, _∙_}
 use mathlib.Core.List.{List, [], _∷_}
 use native.Mathlib.Omega.{arith}
 use lib.ListN.{length, length-set, getD, set}
-use lib.Seq.{getD-set-same, getD-set-other}
+use lib.Seq.{getD-set-other}
 use Rattle.meaning.specs.Limits.{definitionLimit}
 use Rattle.bundle.specs.declared.Layout.{Layout}
-use Rattle.bundle.specs.Definitions.{typeAt, Table}
+use Rattle.bundle.specs.Definitions.{typeAt}
 use Rattle.bundle.specs.Opened.{LayoutOf}
 use Rattle.table.specs.Table.{Within}
-use Rattle.field_index.specs.Noted.{startsAt, partsAt, fieldsOf, fieldsAt, NotedBelow, Behind}
+use Rattle.field_index.specs.Noted.{startsAt, partsAt, fieldsOf, fieldsAt, NotedBelow}
 use Rattle.field_index.proofs.Structs.{table-stays}
 use Rattle.field_index.proofs.Walking.{part-same}
 use Rattle.notes.specs.Notes.{Entry, Lists, listsAt}

@@ -8,11 +8,6 @@ use Rattle.notes.proofs.Indices.{index-other, index-nowhere, index-foun
 use borrow.Author.Needs.{needs}
 use Rattle.notes.proofs.index_for.Statement.{statement}
 use Rattle.notes.proofs.index_for.Tie as tie
-use Rattle.notes.proofs.index_for.Reads as reads
-use Rattle.notes.proofs.index_for.Lts as lts
-use Rattle.checks.proofs.field_part.Reads as field-part-reads
-use Rattle.field_index.proofs.index_of.Reads as index-of-reads
-use Rattle.fields.proofs.find_definition.Reads as find-definition-reads
 
 field-part-requires : tie.Need-field-part-requires
 field-part-requires c κs = search needs
@@ -39,20 +34,20 @@ returns-2 : tie.Need-returns-2
 returns-2 c = index-nowhere _ _ (c .before .before .before .before .before .before .before .before .before .pre .2) (definition-no _ _ _ (c .enum-told2 .given .1) (c .before .before .find-definition .ensures))
 
 index-of-requires : tie.Need-index-of-requires
-index-of-requires c κs = 
+index-of-requires c κs =
     let a = c .before .before .before .before .before .before .before .before .before .before in
     let d = definition-at _ _ _ (c .before .found .given .1) (c .before .before .before .find-definition .ensures) in
     (noted-there (a .pre .0) (a .pre .3) (d .below), (_, a .pre .3 .each _ (d .below)))
 
 cast-result : tie.Need-cast-result
-cast-result c = 
+cast-result c =
     let a = c .before .before .before .before .before .before .before .before .before .before .before in
     let d = definition-at _ _ _ (c .before .before .found .given .1) (c .before .before .before .before .find-definition .ensures) in
     let small : (k : ℕ) → getD (a .args .places .now) k 0 < 65536 = λ k. omega (arith, c .before .before .before .before .before .before .before .before .before .shared-slice-known2 .given k) in
     omega (arith, index-small (a .pre .3) (d .below) small (c .before .before .before .before .before .before .part .given .0 .0), c .index-of .ensures _ (a .pre .3 .each _ (d .below)))
 
 returns-3 : tie.Need-returns-3
-returns-3 c = 
+returns-3 c =
     let a = c .before .before .before .before .before .before .before .before .before .before .before in
     let d = definition-at _ _ _ (c .before .before .found .given .1) (c .before .before .before .before .find-definition .ensures) in
     index-found _ _ (a .pre .2) (a .pre .0) d (part-is _ (c .before .before .before .before .before .before .part .given .1) (c .before .before .before .before .before .before .before .before .field-part .ensures)) (c .index-of .ensures _ (a .pre .3 .each _ (d .below)))

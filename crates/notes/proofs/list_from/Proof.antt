@@ -9,10 +9,6 @@ use Rattle.notes.proofs.Entries.{Walk, walk-start, walk-end, walk-room,
 use Rattle.notes.proofs.Lists.{few}
 use Rattle.notes.proofs.list_from.Statement.{statement}
 use Rattle.notes.proofs.list_from.Tie as tie
-use Rattle.notes.proofs.list_from.Reads as reads
-use Rattle.notes.proofs.list_from.Lts as lts
-use Rattle.checks.proofs.reference_at.Reads as reference-at-reads
-use Rattle.notes.proofs.put_entry.Reads as put-entry-reads
 
 abbrev Inv-loop : tie.InvT-loop
 Inv-loop s places₀ layout at end used next₀ to₀ places next to = Walk s at end places₀ used places next to
@@ -39,7 +35,7 @@ returns : tie.Need-returns Inv-loop μ-loop
 returns c = walk-end (c .before .before .before .before .loop .inv) (reference-no _ _ _ (c .enum-told .given .1) (c .before .before .reference-at .ensures))
 
 put-entry-requires : tie.Need-put-entry-requires Inv-loop μ-loop
-put-entry-requires c κs = 
+put-entry-requires c κs =
     let a = c .before .before .before .before .before .before .before .before .before in
     let w = c .before .before .before .before .before .before .loop .inv in
     let g = reference-is _ _ _ (c .before .before .reference .given .1) (c .before .before .before .before .reference-at .ensures) in

@@ -8,9 +8,6 @@ use Rattle.notes.proofs.Lists.{Listing, listing-start, listing-room, li
 use borrow.Author.Needs.{needs}
 use Rattle.notes.proofs.list_references.Statement.{statement}
 use Rattle.notes.proofs.list_references.Tie as tie
-use Rattle.notes.proofs.list_references.Reads as reads
-use Rattle.notes.proofs.list_references.Lts as lts
-use Rattle.notes.proofs.list_definition.Reads as list-definition-reads
 
 abbrev Inv-loop : tie.InvT-loop
 Inv-loop s places₀ layout used to₀ i₀ places to i = Listing s layout places to i × (length places ≡ length places₀)
@@ -28,7 +25,7 @@ loop-holds : tie.Need-loop-holds Inv-loop μ-loop
 loop-holds c = (listing-start (c .before .before .pre .0) (fields-start (c .before .before .pre .1)) (c .before .before .pre .2), refl)
 
 list-definition-requires : tie.Need-list-definition-requires Inv-loop μ-loop
-list-definition-requires c κs = 
+list-definition-requires c κs =
     let l = c .before .before .before .loop .inv .0 in
     (l .layout, l .fields, c .before .if1 .taken, listing-room l (c .before .if1 .taken))
 
@@ -36,28 +33,28 @@ add-i : tie.Need-add-i Inv-loop μ-loop
 add-i c = search needs
 
 cast-places-2 : tie.Need-cast-places-2 Inv-loop μ-loop
-cast-places-2 c = 
+cast-places-2 c =
     let e = c .before .before .list-definition .ensures in
     let l = c .before .before .before .before .before .before .loop .inv .0 in
     let b = c .before .before .before .before .if1 .taken in
     omega (arith, listing-small l b (e .0) (e .1) .0)
 
 add-places : tie.Need-add-places Inv-loop μ-loop
-add-places c = 
+add-places c =
     let e = c .before .before .list-definition .ensures in
     let l = c .before .before .before .before .before .before .loop .inv .0 in
     let b = c .before .before .before .before .if1 .taken in
     omega (arith, listing-small l b (e .0) (e .1) .1)
 
 mul-places : tie.Need-mul-places Inv-loop μ-loop
-mul-places c = 
+mul-places c =
     let e = c .before .before .list-definition .ensures in
     let l = c .before .before .before .before .before .before .loop .inv .0 in
     let b = c .before .before .before .before .if1 .taken in
     omega (arith, listing-small l b (e .0) (e .1) .1)
 
 slice-write-places-2 : tie.Need-slice-write-places-2 Inv-loop μ-loop
-slice-write-places-2 c = 
+slice-write-places-2 c =
     let e = c .before .before .list-definition .ensures in
     let l = c .before .before .before .before .before .before .loop .inv .0 in
     let b = c .before .before .before .before .if1 .taken in
@@ -67,7 +64,7 @@ loop-less : tie.Need-loop-less Inv-loop μ-loop
 loop-less c = omega (arith, c .before .before .before .before .if1 .taken)
 
 loop-again : tie.Need-loop-again Inv-loop μ-loop
-loop-again c = 
+loop-again c =
     let e = c .before .before .list-definition .ensures in
     let l = c .before .before .before .before .before .before .loop .inv .0 in
     let b = c .before .before .before .before .if1 .taken in

@@ -6,16 +6,12 @@ use Rattle.notes.proofs.Entries.{entry-put}
 use borrow.Author.Needs.{needs}
 use Rattle.notes.proofs.put_entry.Statement.{statement}
 use Rattle.notes.proofs.put_entry.Tie as tie
-use Rattle.notes.proofs.put_entry.Reads as reads
-use Rattle.notes.proofs.put_entry.Lts as lts
-use Rattle.notes.proofs.index_for.Reads as index-for-reads
-use Rattle.sizes.proofs.parse_field_reference.Reads as parse-field-reference-reads
 
 parse-field-reference-requires : tie.Need-parse-field-reference-requires
 parse-field-reference-requires c κs = search needs
 
 index-for-requires : tie.Need-index-for-requires
-index-for-requires c κs = 
+index-for-requires c κs =
     let a = c .before .before .before .before in
     (a .pre .0 .table, a .pre .2, type-part (graph-of (a .pre .0)) _ _ (c .before .parse-field-reference .ensures), a .pre .1 .noted)
 
@@ -50,7 +46,7 @@ same-length : tie.Need-same-length
 same-length c = search needs
 
 returns : tie.Need-returns
-returns c = 
+returns c =
     let a = c .before .before .before .before .before in
     entry-put _ _ _ _ _ (omega (arith, a .pre .3 .there)) _ (type-part (graph-of (a .pre .0)) _ _ (c .before .before .parse-field-reference .ensures)) (c .index-for .ensures)
 
