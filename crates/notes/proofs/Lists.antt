@@ -1,6 +1,6 @@
 -- The references of the definitions are listed one definition after the other.
---     end-is                       where a definition ends
---     none-listed, all-listed      one that needs no references, one that needs all
+--     refs-there, refs-room        the references of one definition
+--     none-listed, all-listed      a definition that needs none of them, one that needs all
 --     listing-start, -next, -end   the walk over the definitions
 use Prim.Native.Nat.{ℕ, zero, suc, _+_, _-_, _*_, _≤_, _<_}
 use mathlib.Core.Path.{_≡_, refl, sym, ap, ap₂, _∙_}
@@ -31,7 +31,7 @@ pub few : {s : List ℕ} {n : ℕ} {places : List ℕ} → Table s n places → 
 few t = omega (arith, t .count, t .placed .room)
 
 -- where definition i ends
-pub end-is : {s : List ℕ} {n : ℕ} {places : List ℕ} → Table s n places → {i : ℕ} → i < n → {end : ℕ} → Next end ≡ stepOf (readTy 24 s (getD places i 0)) → end ≡ getD places (i + 1) 0 - 3
+end-is : {s : List ℕ} {n : ℕ} {places : List ℕ} → Table s n places → {i : ℕ} → i < n → {end : ℕ} → Next end ≡ stepOf (readTy 24 s (getD places i 0)) → end ≡ getD places (i + 1) 0 - 3
 end-is {places = places} t {i} l {end} e =
     let both : Next end ≡ Next (getD places (i + 1) 0 - 3) = e ∙ sym (t .placed .ends i (omega (arith, t .count))) in cc
 

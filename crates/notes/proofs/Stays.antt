@@ -1,6 +1,6 @@
 -- What stands before the lists stays while they are written.
 --     Kept                           all places before a certain one but those where lists start
---     kept-refl, -within, -start     what keeps them
+--     kept-within, -start, -both     what keeps them
 --     layout-kept, fields-kept       what stays with them
 --     lists-length, lists-same       a list
 use Prim.Native.Nat.{ℕ, _+_, _*_, _≤_, _<_}

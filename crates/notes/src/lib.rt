@@ -38,7 +38,7 @@ fn is_constant_array(s: &[u8], at: usize) -> bool
 }
 
 // Whether the type that was read at `at` needs the references in it for its layout: all or none of them.
-pub fn needs_references(s: &[u8], at: usize) -> bool
+fn needs_references(s: &[u8], at: usize) -> bool
     requires { ⌜ Reads (readTy 24 (now s) at) × (length (now s) ≤ sizeLimit) ⌝ }
     ensures { λ r. ⌜ r ≡ needsReferences (typeAt 24 (now (s .entry)) at) ⌝ }
 {
