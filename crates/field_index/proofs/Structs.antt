@@ -1,5 +1,5 @@
 -- The structs are noted one after the other, each behind the parts of those before it.
---     room-for        there is room for one more part
+--     room-for, below-room   there is room for one more part, and for the references behind all of them
 --     below-start, -none, -next, -end    the walk over the definitions
 --     table-stays     what is said of the definitions stays
 use Prim.Native.Nat.{ℕ, zero, suc, _+_, _-_, _*_, _≤_, _<_}
@@ -18,17 +18,18 @@ use Rattle.meaning.specs.Tree.{Ty, primitive, typeRef, struct, union, enum, arr
 use Rattle.names.specs.Names.{inserts}
 use Rattle.bundle.specs.Definitions.{typeAt, bundleOf, Table, definitionNames, namesAt, firstsAt, tableAt, buckets}
 use Rattle.bundle.proofs.NameLaws.{table-few}
-use Rattle.bundle.proofs.LookupLaws.{place-there}
+use Rattle.bundle.proofs.LookupLaws.{place-there, place-ends}
 use Rattle.sizes.specs.Scan.{referencesFrom}
+use Rattle.sizes.proofs.ReferenceLaws.{type-bound}
 use Rattle.bundle.proofs.Parts.{members-none, members-length}
 use Rattle.fields.specs.declared.Shape.{Shape}
 use Rattle.fields.proofs.Shape.{the-type}
 use Rattle.fields.proofs.ShapeLaws.{shape-other}
 use Rattle.fields.specs.Shapes.{StructAt, ShapeOf}
 use Rattle.table.specs.Table.{Within}
-use Rattle.field_index.specs.Noted.{startsAt, partsAt, partOf, Part, NotedFor, leadsOf, leadsAt, LeadsTo, fieldsOf, fieldsAt, referencesOf, referencesTo, Noted, NotedBelow, Behind}
+use Rattle.field_index.specs.Noted.{startsAt, partsAt, partOf, Part, NotedFor, leadsOf, LeadsTo, fieldsOf, fieldsAt, referencesOf, referencesTo, endOf, Noted, NotedBelow, Behind}
 use Rattle.field_index.proofs.Noting.{members-same}
-use Rattle.field_index.proofs.Walking.{fields, part-same}
+use Rattle.field_index.proofs.Walking.{fields, for-same, leads-same}
 use Rattle.field_index.proofs.Widths.{place-next, struct-wide}
 
 -- what is no struct has no fields
@@ -50,7 +51,7 @@ struct-fields at s g = rw (g .tree) refl
 pub struct-empty : (at : ℕ) (s : List ℕ) {n : ℕ} → StructAt 24 s at n → n ≡ 0 → fieldsOf (typeAt 24 s at) ≡ []
 struct-empty at s {n} g z = struct-fields at s g ∙ ap listOf (members-none 23 0x50 s n (at + 12) z)
 
-pub below-start : {s : List ℕ} (places : List ℕ) → length s ≤ 32768 → 2 * partsAt + 3 * length s ≤ 2 * length places → NotedBelow s places 0 partsAt
+pub below-start : {s : List ℕ} (places : List ℕ) → length s ≤ 32768 → 2 * partsAt + 3 * length s + 9 ≤ 2 * length places → NotedBelow s places 0 partsAt
 below-start places short size =
     record {
       noted = record { size = omega arith; each = λ i l. absurd (omega arith); leads = λ i l _. absurd (omega arith); few = λ i l. absurd (omega arith) };
@@ -65,11 +66,18 @@ module _ {s : List ℕ} {count : ℕ} {places : List ℕ} (t : Table s count pla
   pub few : i < 256
   few = omega (arith, t .count, t .placed .room)
 
+  so-far : 2 * used + 6 * referencesTo s places i ≤ 2 * partsAt + 3 * getD places i 0
+  so-far = omega (arith, o .room, ended i)
+    where
+      ended : (i : ℕ) → endOf places i ≤ getD places i 0
+      ended zero = omega arith
+      ended (suc i) = omega arith
+
   pub used-small : (used < 65536) × (used ≤ length places)
-  used-small = (omega (arith, o .room, o .short, place-there t i l), omega (arith, o .room, o .size, place-there t i l))
+  used-small = (omega (arith, so-far, o .short, place-there t i l), omega (arith, so-far, o .size, place-there t i l))
 
   pub room-for : {n : ℕ} → StructAt 24 s (getD places i 0) n → (used + 2 + 6 * n ≤ length places) × (used + 2 + 6 * n < 65536)
-  room-for g = let h = struct-wide t l g in (omega (arith, h .1, o .room, o .size), omega (arith, h .1, o .room, o .short))
+  room-for g = let h = struct-wide t l g in (omega (arith, h .1, so-far, o .size), omega (arith, h .1, so-far, o .short))
 
   -- the places before those used stay, but for where the part of definition i starts
   module _ (u : List ℕ) (long : length u ≡ length places) (same : (j : ℕ) → j < used → (j ≡ startsAt + i → ⊥) → getD u j 0 ≡ getD places j 0) where
@@ -93,16 +101,11 @@ module _ {s : List ℕ} {count : ℕ} {places : List ℕ} (t : Table s count pla
     inside-stays : (j : ℕ) → j < i → 0 < partOf places j → (k : ℕ) → partOf places j ≤ k → k < partOf places j + 2 + 6 * length (fieldsAt s places j) → getD u k 0 ≡ getD places k 0
     inside-stays j c a k b d = let q = o .parts j c a in same k (omega (arith, q .1)) (λ z. omega (arith, z, few, q .0))
 
-    leads-kept : (j : ℕ) → j < i → 0 < partOf u j → LeadsTo (leadsOf (bundleOf s) (fieldsAt s u j)) u (partOf u j) (length (fieldsAt s u j)) (length (fieldsAt s u j))
-    leads-kept j c a =
-        rw (fields-stay j (omega (arith, few)), part-stays j c)
-        (λ k b. let p : 0 < partOf places j = omega (arith, a, part-stays j c) in
-        inside-stays j c p (leadsAt (partOf places j) (length (fieldsAt s places j)) + k) (omega arith) (omega arith) ∙ o .noted .leads j c p k b)
-
     kept : (j : ℕ) → j < i → NotedFor (fieldsAt s u j) u (partOf u j)
-    kept j c =
-        rw (fields-stay j (omega (arith, few)), part-stays j c)
-        (record { none = o .noted .each j c .none; part = λ a. part-same u (inside-stays j c a) (omega (arith, long)) (o .noted .each j c .part a) })
+    kept j c = rw (fields-stay j (omega (arith, few)), part-stays j c) (for-same (fieldsAt s places j) places u (partOf places j) (inside-stays j c) (omega (arith, long)) (o .noted .each j c))
+
+    leads-kept : (j : ℕ) → j < i → 0 < partOf u j → LeadsTo (leadsOf (bundleOf s) (fieldsAt s u j)) u (partOf u j) (length (fieldsAt s u j)) (length (fieldsAt s u j))
+    leads-kept j c = rw (fields-stay j (omega (arith, few)), part-stays j c) (leads-same (fieldsAt s places j) places u (partOf places j) (inside-stays j c) (leadsOf (bundleOf s) (fieldsAt s places j)) (o .noted .leads j c))
 
     -- the fields of definition i are noted up to a place
     pub below-next : {used′ : ℕ} → NotedFor (fieldsAt s places i) u (partOf u i)
@@ -127,7 +130,7 @@ module _ {s : List ℕ} {count : ℕ} {places : List ℕ} (t : Table s count pla
         from = omega (arith, o .from);
         room =
             let next : i + 1 ≡ suc i = omega arith in
-            omega (arith, room, below (i + 1) (omega (arith, few)), ap (referencesTo s u) next, references-stay (suc i) (omega (arith, few)));
+            omega (arith, room, below (i + 1) (omega (arith, few)), ap (endOf u) next, ap (λ n. getD u n 0) next, ap (referencesTo s u) next, references-stay (suc i) (omega (arith, few)));
         size = omega (arith, long, o .size);
         short = o .short;
         parts = λ j c.
@@ -148,7 +151,7 @@ module _ {s : List ℕ} {count : ℕ} {places : List ℕ} (t : Table s count pla
       let here : getD (set places (startsAt + i) 0) (startsAt + i) 0 ≡ 0 = getD-set-same places (startsAt + i) 0 0 there in
       below-next (set places (startsAt + i) 0) (length-set places (startsAt + i) 0) (λ j c ne. getD-set-other places (startsAt + i) j 0 0 ne)
       (rw here (record { none = λ _. e; part = λ c. absurd (omega arith) })) (λ c. absurd (omega (arith, here, c)))
-      (omega (arith, ap length e)) (omega arith) (omega (arith, o .room, place-next t l)) (λ c. absurd (omega (arith, here, c)))
+      (omega (arith, ap length e)) (omega arith) (omega (arith, so-far, place-next t l)) (λ c. absurd (omega (arith, here, c)))
 
   -- it is a struct with n fields, noted behind the other parts
   pub below-struct : {n : ℕ} {u : List ℕ} → StructAt 24 s (getD places i 0) n → Part (fields s (getD places i 0 + 12) n) u used
@@ -164,11 +167,23 @@ module _ {s : List ℕ} {count : ℕ} {places : List ℕ} (t : Table s count pla
       below-next u long
       (λ j c ne. w .before j c ∙ getD-set-other (set places k 0) k j used 0 ne ∙ getD-set-other places k j 0 0 ne)
       (rw (here, is) (record { none = λ z. absurd (omega (arith, z, o .from)); part = λ _. p })) (λ _. rw (here, is, count) leads)
-      (omega (arith, ap length is, count, struct-wide t l g .1)) (omega arith) (omega (arith, o .room, struct-wide t l g .0))
+      (omega (arith, ap length is, count, struct-wide t l g .1)) (omega arith) (omega (arith, so-far, struct-wide t l g .0))
       (λ _. rw (here, is, count) (o .from, omega arith))
 
 pub below-end : {s places : List ℕ} {n i used : ℕ} → i ≡ n → NotedBelow s places i used → NotedBelow s places n used
 below-end {s} {places} {used = used} e o = subst (λ k. NotedBelow s places k used) e o
+
+-- behind all parts there is room for three places for each reference
+pub below-room : {s : List ℕ} {n : ℕ} {places : List ℕ} {used : ℕ} → Table s n places → NotedBelow s places n used
+    → (used + 3 * referencesTo s places n ≤ length places) × (used + 3 * referencesTo s places n < 65536)
+below-room {s} {n} {places} t o = (omega (arith, o .room, ended n (omega arith), o .size), omega (arith, o .room, ended n (omega arith), o .short))
+  where
+    ended : (m : ℕ) → m ≤ n → endOf places m ≤ length s + 3
+    ended zero l = omega arith
+    ended (suc m) l =
+        let next : m + 1 ≡ suc m = omega arith in
+        let e = place-ends t m (omega arith) in
+        omega (arith, e .0, ap (λ k. getD places k 0) next, type-bound 24 (getD places m 0) (getD places (m + 1) 0 - 3) s (omega arith) (e .1))
 
 -- what the places of the definitions say stays with them
 pub table-stays : {s : List ℕ} {n : ℕ} {places u : List ℕ} → Table s n places → Behind places u → Table s n u

@@ -1,5 +1,5 @@
 -- The fields of a struct are noted one after the other.
---     part-same           a part stays where its places do
+--     for-same, leads-same   what is noted stays where its places do
 --     noting-start, -next, -end   the walk over the fields
 --     started             what is written before it
 use Prim.Native.Nat.{ℕ, zero, suc, _+_, _-_, _*_, _≤_, _<_}
@@ -20,7 +20,7 @@ use Rattle.fields.specs.declared.Field.{Field}
 use Rattle.fields.specs.Shapes.{FieldAt}
 use Rattle.fields.proofs.Walking.{Passing, passing-next, passing-tree}
 use Rattle.table.specs.Table.{Members, Within}
-use Rattle.field_index.specs.Noted.{nameAt, tableAt, NotedTo, Part, leadShown, leadsOf, leadsAt, LeadsTo}
+use Rattle.field_index.specs.Noted.{nameAt, tableAt, NotedTo, Part, NotedFor, leadShown, leadsOf, leadsAt, LeadsTo}
 use Rattle.field_index.proofs.Noting.{members-same, OneMore}
 
 -- places of the part at a from its names on hold the same
@@ -38,7 +38,7 @@ noted-same {t = t} u {a} {n} {d} l same long o =
     name : (r : ℕ) → r < d → getD u (tableAt a n + n + 2 * r) 0 ≡ getD t (tableAt a n + n + 2 * r) 0
     name r c = same (tableAt a n + n + 2 * r) (omega arith) (omega arith)
 
-pub part-same : {ms : List Member} {t : List ℕ} (u : List ℕ) {a : ℕ} → ((i : ℕ) → a ≤ i → i < a + 2 + 6 * length ms → getD u i 0 ≡ getD t i 0)
+part-same : {ms : List Member} {t : List ℕ} (u : List ℕ) {a : ℕ} → ((i : ℕ) → a ≤ i → i < a + 2 + 6 * length ms → getD u i 0 ≡ getD t i 0)
     → length t ≤ length u → Part ms t a → Part ms u a
 part-same {ms} {t} u {a} same long p =
     record {
@@ -49,6 +49,14 @@ part-same {ms} {t} u {a} same long p =
           rw (same (a + 1) (omega arith) (omega arith))
           (noted-same u (p .all .few) (λ i c m. same i (omega arith) (omega arith)) long (p .all));
     }
+
+-- what is noted of the fields ms in a part at a stays where its places do
+module _ (ms : List Member) (t u : List ℕ) (a : ℕ) (same : 0 < a → (i : ℕ) → a ≤ i → i < a + 2 + 6 * length ms → getD u i 0 ≡ getD t i 0) where
+  pub for-same : length t ≤ length u → NotedFor ms t a → NotedFor ms u a
+  for-same long o = record { none = o .none; part = λ l. part-same u (same l) long (o .part l) }
+
+  pub leads-same : (leads : List ℕ) → (0 < a → LeadsTo leads t a (length ms) (length ms)) → 0 < a → LeadsTo leads u a (length ms) (length ms)
+  leads-same leads o l i c = same l (leadsAt a (length ms) + i) (omega arith) (omega arith) ∙ o l i c
 
 -- what is said of the first of the fields left, and those behind it
 left-name : (f : Member → ℕ) (ms : List Member) (k : ℕ) {m : Member} {rest : List Member} → m ∷ rest ≡ drop k ms → (getD (map f ms) k 0 ≡ f m) × (rest ≡ drop (k + 1) ms)

@@ -126,6 +126,11 @@ abbrev pub referencesTo : List ℕ → List ℕ → ℕ → ℕ
 referencesTo s places zero = 0
 referencesTo s places (suc n) = referencesTo s places n + length (referencesOf s places n)
 
+-- where the first n definitions end, with the head of the next
+abbrev pub endOf : List ℕ → ℕ → ℕ
+endOf places zero = 0
+endOf places (suc n) = getD places (suc n) 0
+
 -- the fields of n definitions are noted
 pub record Noted (s places : List ℕ) (n : ℕ) : Type 0 where
   pub size : partsAt ≤ length places
@@ -134,12 +139,12 @@ pub record Noted (s places : List ℕ) (n : ℕ) : Type 0 where
       → LeadsTo (leadsOf (bundleOf s) (fieldsAt s places i)) places (partOf places i) (length (fieldsAt s places i)) (length (fieldsAt s places i))
   pub few : (i : ℕ) → i < n → 4 * length (fieldsAt s places i) ≤ length s
 
--- the same in the first `used` places; the parts, and three for each reference, take at most three for every two bytes before definition n
+-- the same in the first `used` places; the parts, and three for each reference, take at most three for every two bytes of n definitions
 pub record NotedBelow (s places : List ℕ) (n used : ℕ) : Type 0 where
   pub noted : Noted s places n
   pub from : partsAt ≤ used
-  pub room : 2 * used + 6 * referencesTo s places n ≤ 2 * partsAt + 3 * getD places n 0
-  pub size : 2 * partsAt + 3 * length s ≤ 2 * length places
+  pub room : 2 * used + 6 * referencesTo s places n ≤ 2 * partsAt + 3 * endOf places n
+  pub size : 2 * partsAt + 3 * length s + 9 ≤ 2 * length places
   pub short : length s ≤ 32768
   pub parts : (i : ℕ) → i < n → 0 < partOf places i
       → (partsAt ≤ partOf places i) × (partOf places i + 2 + 6 * length (fieldsAt s places i) ≤ used)

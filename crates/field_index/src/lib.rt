@@ -95,7 +95,7 @@ fn note_struct(s: &[u8], places: &mut [u16], count: usize, i: usize, used: usize
 // Notes the fields of every struct. What stands behind the places of the definitions before is free. Returns how many places are used.
 pub fn note_structs(s: &[u8], places: &mut [u16], count: usize) -> usize
     requires { ⌜ Table (now s) count (now places) × (length (now s) ≤ 32768) ⌝ }
-    requires { ⌜ 2 * partsAt + 3 * length (now s) ≤ 2 * length (now places) ⌝ }
+    requires { ⌜ 2 * partsAt + 3 * length (now s) + 9 ≤ 2 * length (now places) ⌝ }
     ensures { λ r. ⌜ Table (now (s .entry)) count (now (places .exit)) × NotedBelow (now (s .entry)) (now (places .exit)) count r ⌝ }
 {
     let mut used = PARTS_AT;

@@ -1,0 +1,5 @@
+pub mod ArrayLaws
+pub mod Indices
+pub mod Stays
+pub mod Entries
+pub mod Lists

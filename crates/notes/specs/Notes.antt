@@ -1,6 +1,6 @@
 -- What is noted of a bundle behind the places of its definitions: the fields of its structs, and the references of its definitions with
 -- the fields to which they lead.
-use Prim.Native.Nat.{ℕ, _+_, _-_, _*_, _≤_, _<_}
+use Prim.Native.Nat.{ℕ, _+_, _≤_, _<_}
 use mathlib.Core.Bool.{Bool, not, cond, _&&_}
 use mathlib.Core.Option.{Option, none, some}
 use mathlib.Core.List.{List, [], _∷_}
@@ -14,21 +14,17 @@ use Rattle.meaning.specs.Tree.{Ty, Member, Bundle}
 use Rattle.meaning.specs.Violations.{structOf}
 use Rattle.meaning.proofs.Needs.{isConstantArray}
 use Rattle.bundle.specs.Definitions.{typeAt, bundleOf}
-use Rattle.sizes.specs.Scan.{referencesFrom, Fits}
+use Rattle.sizes.specs.Scan.{Fits}
 use Rattle.fields.specs.Sought.{lastShown}
 use Rattle.field_index.specs.Noted as fields
-use Rattle.field_index.specs.Noted.{startsAt}
+use Rattle.field_index.specs.Noted.{startsAt, referencesOf}
 use Rattle.checks.specs.Checks.{targetAt}
 
 -- the type needs the references in it for its layout, all or none of them
 unfoldable pub needsReferences : Ty → Bool
 needsReferences t = not (isEnumWithConstantSizeVariants t) && not (isConstantArray t)
 
--- the references in definition i
-abbrev pub referencesOf : List ℕ → List ℕ → ℕ → List ℕ
-referencesOf s places i = referencesFrom s (getD places i 0) (getD places (i + 1) 0 - 3)
-
--- those of them that it needs: all or none
+-- the references that definition i needs: all in it or none
 abbrev pub neededOf : List ℕ → List ℕ → ℕ → List ℕ
 neededOf s places i = cond (needsReferences (typeAt 24 s (getD places i 0))) (referencesOf s places i) []
 
