@@ -18,7 +18,7 @@ use Rattle.fields.specs.Sought.{lastShown}
 use Rattle.checks.specs.Checks.{targetAt, typePart}
 use Rattle.checks.proofs.ForwardChecks.{no-field, holds-no}
 use Rattle.notes.specs.Notes.{firstShown, Entry}
-use Rattle.forward.specs.Forward.{isForward, isLater, isLaterAt, laterFrom, Passed}
+use Rattle.forward.specs.Forward.{isForward, isLater, isLaterAt, laterFrom}
 
 -- a field part that is not one name is no field of a struct
 no-first : (field : List ℕ) → (length field ≡ 1 → ⊥) → (ms : List Member) → firstIndex (namesField field) ms ≡ none
@@ -94,7 +94,12 @@ part-forward s p n j t e = go (targetAt s p .field) refl
     go (f ∷ []) q = ap length q
     go (f ∷ g ∷ gs) q = absurd (no (λ z. let w = sym (ap length q) ∙ z in omega arith))
 
--- a search in the list from `from` to `end`
+-- in the list from `from` to `end`, those before `next` are passed over: the first such reference is the first from `next` on
+pub record Passed (places : List ℕ) (n j from end next : ℕ) : Type 0 where
+  pub left : ℕ
+  pub ends : next + 3 * left ≡ end
+  pub same : (k : ℕ) → from + 3 * k ≡ end → laterFrom places n j left next ≡ laterFrom places n j k from
+
 pub passed-start : (places : List ℕ) (n j from end : ℕ) → (k : ℕ) × (from + 3 * k ≡ end) → Passed places n j from end from
 passed-start places n j from end h = record {
   left = h .0;

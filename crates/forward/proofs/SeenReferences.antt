@@ -24,7 +24,7 @@ use Rattle.sizes.specs.declared.Found.{Found}
 use Rattle.sizes.specs.declared.Found.the-variants.{At, Nothing}
 use Rattle.sizes.proofs.ReferenceLaws.{type-references}
 use Rattle.notes.specs.Notes.{needsReferences, neededOf, Lists, listStart, Listed}
-use Rattle.forward.specs.Forward.{isForward, find, positionShown, FitIn, ForwardIn, isLater, isLaterAt, laterFrom, SeenTo, Stopped, Seen}
+use Rattle.forward.specs.Forward.{isForward, find, positionShown, FitIn, ForwardIn, isLater, isLaterAt, laterFrom, SeenTo, Seen}
 use Rattle.forward.proofs.FieldChecks.{forward-in}
 use Rattle.forward.proofs.LaterFields.{entry-later, later-falls}
 
@@ -62,7 +62,7 @@ module _ (s : List ℕ) (at end : ℕ) (e : Next end ≡ stepOf (readTy 24 s at)
   is-forward : (p : ℕ) → List·Memᴰ p (referencesFrom s at end) → forward p ≡ (isLater s n k p && needsReferences (typeAt 24 s at))
   is-forward p m = forward-is (bundleOf s) n k (typeAt 24 s at) (subst (List·Memᴰ (pathAt s p)) (type-references 24 at end s (omega arith) e) (mem-map (pathAt s) (referencesFrom s at end) m)) (isLater s n k p)
 
-  pub needed-first : find (isLater s n k) (cond (needsReferences (typeAt 24 s at)) (referencesFrom s at end) []) ≡ find forward (referencesFrom s at end)
+  needed-first : find (isLater s n k) (cond (needsReferences (typeAt 24 s at)) (referencesFrom s at end) []) ≡ find forward (referencesFrom s at end)
   needed-first = go (needsReferences (typeAt 24 s at)) refl
     where
       yes : (x : Bool) → x ≡ (x && true)
@@ -83,6 +83,11 @@ module _ (s : List ℕ) (at end : ℕ) (e : Next end ≡ stepOf (readTy 24 s at)
 lists-end : (s places : List ℕ) {end : ℕ} (ps : List ℕ) (a : ℕ) → Lists s places end a ps → a + 3 * length ps ≡ end
 lists-end s places [] a l = omega (arith, l)
 lists-end s places (p ∷ ps) a l = omega (arith, lists-end s places ps (a + 3) (l .1))
+
+-- the references are seen to `next`, and the one that is listed there, if there is one, leads to a field behind index j
+pub record Stopped (s places : List ℕ) (end n j : ℕ) (ps : List ℕ) (next : ℕ) : Type 0 where
+  pub seen : SeenTo s places end n j ps next
+  pub here : foundOf (seen .rest) ≡ positionShown (find (isLater s n j) (seen .rest))
 
 -- the search through a list stops at the first reference to a later field
 module _ (s places : List ℕ) (end n j : ℕ) where

@@ -1,5 +1,5 @@
 -- What a struct's check finds in the definitions to which its fields lead: type 4.
-use Prim.Native.Nat.{ℕ, zero, suc, _+_, _*_, _≤_, _<_}
+use Prim.Native.Nat.{ℕ, zero, suc, _+_, _≤_, _<_}
 use mathlib.Core.Bool.{Bool, not, cond, _&&_, _||_}
 use mathlib.Core.Option.{Option, none, some}
 use mathlib.Core.List.{List, [], _∷_}
@@ -15,7 +15,7 @@ use Rattle.meaning.specs.Tree.{Ty, Bundle}
 use Rattle.meaning.specs.Violations.{Violation, violation, fieldForward, isLaterField, typeNeedsFieldRefForLayout, checkForwardReference}
 use Rattle.bundle.specs.Definitions.{bundleOf}
 use Rattle.sizes.specs.Paths.{Fit}
-use Rattle.sizes.specs.Scan.{pathAt, foundOf, Fits}
+use Rattle.sizes.specs.Scan.{pathAt, Fits}
 use Rattle.sizes.specs.declared.Found as found
 use Rattle.sizes.specs.declared.Found.the-variants.{At, Nothing}
 use Rattle.checks.specs.Checks.{targetAt}
@@ -76,23 +76,12 @@ abbrev pub laterFrom : List ℕ → ℕ → ℕ → ℕ → ℕ → ℕ
 laterFrom places n j zero a = a
 laterFrom places n j (suc k) a = cond (isLaterAt places n j a) a (laterFrom places n j k (a + 3))
 
--- in the list from `from` to `end`, those before `next` are passed over: the first such reference is the first from `next` on
-pub record Passed (places : List ℕ) (n j from end next : ℕ) : Type 0 where
-  pub left : ℕ
-  pub ends : next + 3 * left ≡ end
-  pub same : (k : ℕ) → from + 3 * k ≡ end → laterFrom places n j left next ≡ laterFrom places n j k from
-
 -- of the references at ps, those listed from `next` to `end` have all that lead to a field of the struct n behind index j or a later one
 pub record SeenTo (s places : List ℕ) (end n j : ℕ) (ps : List ℕ) (next : ℕ) : Type 0 where
   pub rest : List ℕ
   pub lists : Lists s places end next rest
   pub fits : Fits s rest
   pub same : (k : ℕ) → j ≤ k → find (isLater s n k) rest ≡ find (isLater s n k) ps
-
--- and the one that is listed at `next` leads to a field behind index j
-pub record Stopped (s places : List ℕ) (end n j : ℕ) (ps : List ℕ) (next : ℕ) : Type 0 where
-  pub seen : SeenTo s places end n j ps next
-  pub here : foundOf (seen .rest) ≡ positionShown (find (isLater s n j) (seen .rest))
 
 -- `seen` has for each definition to where its list is seen, and 0 where it is not
 pub record Seen (s places : List ℕ) (n j : ℕ) (seen : List ℕ) : Type 0 where

@@ -4,8 +4,7 @@ use Rattle.forward.proofs.find_later_field.Tie as tie
 use native.Mathlib.Omega.{arith}
 use Prim.Native.Nat.{_-_}
 use mathlib.Core.Path.{sym, _∙_}
-use Rattle.forward.specs.Forward.{Passed}
-use Rattle.forward.proofs.LaterFields.{passed-start, passed-end, passed-room, passed-here, passed-next}
+use Rattle.forward.proofs.LaterFields.{Passed, passed-start, passed-end, passed-room, passed-here, passed-next}
 
 abbrev Inv-loop : tie.InvT-loop
 Inv-loop places name j from end next₀ next = Passed places name j from end next
