@@ -1,4 +1,3 @@
-pub mod ArrayLaws
 pub mod FieldChecks
 pub mod LaterFields
 pub mod SeenReferences

@@ -1,27 +1,25 @@
 -- What a struct's check finds in the definitions to which its fields lead: type 4.
-use Prim.Native.Nat.{ℕ, _≤_, _<_}
+use Prim.Native.Nat.{ℕ, zero, suc, _+_, _≤_, _<_}
 use mathlib.Core.Bool.{Bool, not, cond, _&&_, _||_}
 use mathlib.Core.Option.{Option, none, some}
 use mathlib.Core.List.{List, [], _∷_}
 use mathlib.Core.Path.{_≡_}
+use lib.Dec.{eqb, ltb}
 use lib.ListN.{length, getD}
 use Rattle.meaning.specs.Limits.{definitionLimit}
 use Rattle.meaning.specs.Lists.{findMap}
 use Rattle.meaning.specs.Lookup.{parseFieldReference}
 use Rattle.meaning.specs.Sizes.{namedSizeDepends, isEnumWithConstantSizeVariants}
-use Rattle.meaning.specs.ReadType.{readTy}
 use Rattle.meaning.specs.References.{collectFieldReferencesInTypeKind}
 use Rattle.meaning.specs.Tree.{Ty, Bundle}
 use Rattle.meaning.specs.Violations.{Violation, violation, fieldForward, isLaterField, typeNeedsFieldRefForLayout, checkForwardReference}
-use Rattle.meaning.proofs.Needs.{isConstantArray}
-use Rattle.bundle.specs.declared.Step.the-variants.{Next}
-use Rattle.bundle.specs.View.{stepOf}
-use Rattle.bundle.specs.Definitions.{typeAt, bundleOf}
+use Rattle.bundle.specs.Definitions.{bundleOf}
 use Rattle.sizes.specs.Paths.{Fit}
-use Rattle.sizes.specs.Scan.{pathAt, referencesFrom, Fits}
+use Rattle.sizes.specs.Scan.{pathAt, Fits}
 use Rattle.sizes.specs.declared.Found as found
 use Rattle.sizes.specs.declared.Found.the-variants.{At, Nothing}
 use Rattle.checks.specs.Checks.{targetAt}
+use Rattle.notes.specs.Notes.{neededOf, Lists, listStart}
 
 -- the reference leads to a field behind index j of the struct n, and the type t needs it
 abbrev pub isForward : Bundle → ℕ → ℕ → Ty → List ℕ → Bool
@@ -29,10 +27,6 @@ isForward b n j t path =
     isLaterField b n j (parseFieldReference (b .current) path)
     && (namedSizeDepends b t || typeNeedsFieldRefForLayout t path)
     && not (isEnumWithConstantSizeVariants t)
-
--- the type needs the references in it for its layout, all or none of them
-unfoldable pub needsReferences : Ty → Bool
-needsReferences t = not (isEnumWithConstantSizeVariants t) && not (isConstantArray t)
 
 -- the first number that passes the test
 abbrev pub find : (ℕ → Bool) → List ℕ → Option ℕ
@@ -73,29 +67,23 @@ pub record ForwardIn (s : List ℕ) (n j : ℕ) (t : Ty) (r : found.Found) : Typ
 abbrev pub isLater : List ℕ → ℕ → ℕ → ℕ → Bool
 isLater s n k p = isLaterField (bundleOf s) n k (targetAt s p)
 
--- the references up to `end` that are passed over between `from` and `next` lead to no field of the struct n behind index j
-pub record Passed (s : List ℕ) (end n j from next : ℕ) : Type 0 where
-  pub fits : Fits s (referencesFrom s next end)
-  pub same : (k : ℕ) → j ≤ k → find (isLater s n k) (referencesFrom s next end) ≡ find (isLater s n k) (referencesFrom s from end)
+-- what is listed at a is a reference to a field of the struct n, behind index j
+abbrev pub isLaterAt : List ℕ → ℕ → ℕ → ℕ → Bool
+isLaterAt places n j a = eqb (getD places a 0) n && ltb (j + 1) (getD places (a + 1) 0)
 
--- where a search up to `end` stops
-abbrev pub stopOf : found.Found → ℕ → ℕ
-stopOf (At p) end = p
-stopOf Nothing end = end
+-- where the first such of k references is listed from a on, and where their list ends if there is none
+abbrev pub laterFrom : List ℕ → ℕ → ℕ → ℕ → ℕ → ℕ
+laterFrom places n j zero a = a
+laterFrom places n j (suc k) a = cond (isLaterAt places n j a) a (laterFrom places n j k (a + 3))
 
--- r is the first reference from `from` to `end` that leads to a field of the struct n behind index j
-pub record Stopped (s : List ℕ) (end n j from : ℕ) (r : found.Found) : Type 0 where
-  pub passed : Passed s end n j from (stopOf r end)
-  pub first : r ≡ positionShown (find (isLater s n j) (referencesFrom s from end))
-  pub fit : FitIn s r
+-- of the references at ps, those listed from `next` to `end` have all that lead to a field of the struct n behind index j or a later one
+pub record SeenTo (s places : List ℕ) (end n j : ℕ) (ps : List ℕ) (next : ℕ) : Type 0 where
+  pub rest : List ℕ
+  pub lists : Lists s places end next rest
+  pub fits : Fits s rest
+  pub same : (k : ℕ) → j ≤ k → find (isLater s n k) rest ≡ find (isLater s n k) ps
 
--- of the references in the definition from `at` to `end`, those from `next` on have all the forward ones for index j and later ones
-pub record SeenTo (s : List ℕ) (at end n j next : ℕ) : Type 0 where
-  pub bound : next ≤ length s
-  pub fits : Fits s (referencesFrom s next end)
-  pub same : (k : ℕ) → j ≤ k → find (isLater s n k) (referencesFrom s next end) ≡ find (λ p. isForward (bundleOf s) n k (typeAt 24 s at) (pathAt s p)) (referencesFrom s at end)
-
--- `seen` has for each definition how far its references are seen, and 0 where none is
+-- `seen` has for each definition to where its list is seen, and 0 where it is not
 pub record Seen (s places : List ℕ) (n j : ℕ) (seen : List ℕ) : Type 0 where
   pub size : length seen ≡ definitionLimit
-  pub each : (i : ℕ) → 0 < getD seen i 0 → (end : ℕ) → Next end ≡ stepOf (readTy 24 s (getD places i 0)) → SeenTo s (getD places i 0) end n j (getD seen i 0)
+  pub each : (i : ℕ) → 0 < getD seen i 0 → SeenTo s places (listStart places (i + 1)) n j (neededOf s places i) (getD seen i 0)

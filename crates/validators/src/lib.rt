@@ -12,8 +12,8 @@ ghost use Rattle.meaning.specs.Limits.{definitionLimit};
 ghost use Rattle.bundle.specs.Opened.{LayoutOf};
 ghost use Rattle.sizes.specs.Tests.{Acyclic, Kept};
 ghost use Rattle.fields.specs.Shapes.{StructAt, EnumAt, ArrayAt};
-ghost use Rattle.field_index.specs.Noted.{Noted};
 ghost use Rattle.checks.specs.Checks.{EdgesPrepared};
+ghost use Rattle.notes.specs.Notes.{Noted};
 ghost use Rattle.validate.specs.Validating.{Wrote, Room, violationsOf};
 
 // Writes the violations of an enum: for each reference of its tag.

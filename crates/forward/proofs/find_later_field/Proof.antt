@@ -1,50 +1,37 @@
 -- `forward::find_later_field` meets its contract: the invariant is `Passed`.
-use borrow.Author.Needs.{needs}
 use Rattle.forward.proofs.find_later_field.Statement.{statement}
 use Rattle.forward.proofs.find_later_field.Tie as tie
 use native.Mathlib.Omega.{arith}
 use Prim.Native.Nat.{_-_}
 use mathlib.Core.Path.{sym, _∙_}
-use Rattle.sizes.proofs.ScanLaws.{nothing-left}
-use Rattle.checks.proofs.ForwardChecks.{reference-is, reference-no}
-use Rattle.forward.specs.Forward.{Passed}
-use Rattle.forward.proofs.SeenReferences.{passed-start, passed-none, passed-here, passed-next}
+use Rattle.forward.proofs.LaterFields.{Passed, passed-start, passed-end, passed-room, passed-here, passed-next}
 
 abbrev Inv-loop : tie.InvT-loop
-Inv-loop s places layout name j from end next₀ next = Passed s end name j from next
+Inv-loop places name j from end next₀ next = Passed places name j from end next
 
 abbrev μ-loop : tie.MeasureT-loop
-μ-loop s places layout name j from end next₀ next = end - next
+μ-loop places name j from end next₀ next = end - next
 
 loop-holds : tie.Need-loop-holds Inv-loop μ-loop
-loop-holds c = passed-start _ _ _ _ _ (c .before .before .pre .2)
-
-reference-at-requires : tie.Need-reference-at-requires Inv-loop μ-loop
-reference-at-requires c κs = (c .before .before .before .before .pre .1, c .before .before .before .before .pre .0 .small, c .before .loop .inv .fits)
-
-enum-known-reference : tie.Need-enum-known-reference Inv-loop μ-loop
-enum-known-reference c = search needs
-
-enum-told : tie.Need-enum-told Inv-loop μ-loop
-enum-told c = search needs
-
-returns : tie.Need-returns Inv-loop μ-loop
-returns c = passed-none (c .before .before .before .before .loop .inv) (reference-no _ _ _ (c .enum-told .given .1) (c .before .before .reference-at .ensures))
+loop-holds c = passed-start _ _ _ _ _ (c .before .pre .0)
 
 is-later-field-requires : tie.Need-is-later-field-requires Inv-loop μ-loop
-is-later-field-requires c κs = (c .before .before .before .before .before .before .before .before .pre .0, (reference-is _ _ _ (c .before .reference .given .1) (c .before .before .before .reference-at .ensures)) .fit, c .before .before .before .before .before .before .before .before .pre .3)
+is-later-field-requires c κs = omega (arith, passed-room (c .before .loop .inv) (c .loop-test .taken), c .before .before .before .pre .1)
 
-returns-2 : tie.Need-returns-2 Inv-loop μ-loop
-returns-2 c = passed-here (c .before .before .before .before .before .before .before .loop .inv) (reference-is _ _ _ (c .before .before .before .reference .given .1) (c .before .before .before .before .before .reference-at .ensures)) (sym (c .if1 .taken) ∙ c .before .is-later-field .ensures)
+returns : tie.Need-returns Inv-loop μ-loop
+returns c = passed-here (c .before .before .before .loop .inv) (c .before .before .loop-test .taken) (sym (c .if1 .taken) ∙ c .before .is-later-field .ensures)
+
+add-next : tie.Need-add-next Inv-loop μ-loop
+add-next c = omega (arith, passed-room (c .before .before .before .loop .inv) (c .before .before .loop-test .taken))
 
 loop-less : tie.Need-loop-less Inv-loop μ-loop
-loop-less c = omega (arith, (reference-is _ _ _ (c .before .before .before .reference .given .1) (c .before .before .before .before .before .reference-at .ensures)) .forward)
+loop-less c = omega (arith, c .before .before .loop-test .taken)
 
 loop-again : tie.Need-loop-again Inv-loop μ-loop
-loop-again c = passed-next (c .before .before .before .before .before .before .before .loop .inv) (reference-is _ _ _ (c .before .before .before .reference .given .1) (c .before .before .before .before .before .reference-at .ensures)) (sym (c .if1 .left) ∙ c .before .is-later-field .ensures)
+loop-again c = passed-next (c .before .before .before .loop .inv) (c .before .before .loop-test .taken) (sym (c .if1 .left) ∙ c .before .is-later-field .ensures)
 
-returns-3 : tie.Need-returns-3 Inv-loop μ-loop
-returns-3 c = passed-none (c .before .loop .inv) (nothing-left _ _ _ (omega arith))
+returns-2 : tie.Need-returns-2 Inv-loop μ-loop
+returns-2 c = passed-end (c .before .loop .inv) (omega arith)
 
 pub find-later-field-spec : {M : Type 1} → statement M
 find-later-field-spec =
@@ -53,12 +40,9 @@ find-later-field-spec =
     Inv-loop
     μ-loop
     loop-holds
-    reference-at-requires
-    enum-known-reference
-    enum-told
-    returns
     is-later-field-requires
-    returns-2
+    returns
+    add-next
     loop-less
     loop-again
-    returns-3)
+    returns-2)

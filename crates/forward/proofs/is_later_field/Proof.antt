@@ -1,43 +1,52 @@
 -- `forward::is_later_field` meets its contract.
-use Rattle.checks.proofs.ChainChecks.{graph-of, type-part, part-is, part-other}
-use Rattle.forward.proofs.LaterFields.{later-name, later-part, later-one}
 use borrow.Author.Needs.{needs}
 use Rattle.forward.proofs.is_later_field.Statement.{statement}
 use Rattle.forward.proofs.is_later_field.Tie as tie
+use native.Mathlib.Omega.{arith}
+use Prim.Native.Nat.{_+_}
+use Rattle.forward.proofs.LaterFields.{later-name, later-none, later-some}
 
-parse-field-reference-requires : tie.Need-parse-field-reference-requires
-parse-field-reference-requires c κs = search needs
+mul-if1 : tie.Need-mul-if1
+mul-if1 c = search needs
+
+shared-slice-read-if1 : tie.Need-shared-slice-read-if1
+shared-slice-read-if1 c = search needs
 
 returns : tie.Need-returns
-returns c = later-name _ _ _ _ _ (type-part (graph-of (c .before .before .before .before .before .pre .0)) _ _ (c .before .before .parse-field-reference .ensures)) (c .if1 .taken)
+returns c = let a = c .before .before .args in later-name (a .places .now) (a .name) (a .j) (a .next) (c .if1 .taken)
 
-field-part-requires : tie.Need-field-part-requires
-field-part-requires c κs = search needs
+add-field : tie.Need-add-field
+add-field c = search needs
 
-enum-known-part : tie.Need-enum-known-part
-enum-known-part c = search needs
+mul-field : tie.Need-mul-field
+mul-field c = search needs
 
-enum-told : tie.Need-enum-told
-enum-told c = search needs
+shared-slice-read-field : tie.Need-shared-slice-read-field
+shared-slice-read-field c = search needs
+
+cast-field : tie.Need-cast-field
+cast-field c = omega (arith, c .shared-slice-known2 .given (c .before .before .before .args .next + 1))
 
 returns-2 : tie.Need-returns-2
-returns-2 c = later-part _ _ _ _ _ (type-part (graph-of (c .before .before .before .before .before .before .before .before .pre .0)) _ _ (c .before .before .before .before .before .parse-field-reference .ensures)) (c .before .before .before .if1 .left) (part-other _ (c .enum-told .given .1) (c .before .before .field-part .ensures))
+returns-2 c = let a = c .before .before .before .before .args in later-none (a .places .now) (a .name) (a .j) (a .next) (c .if2 .taken)
 
-stands-after-requires : tie.Need-stands-after-requires
-stands-after-requires c κs = search needs
+sub-result : tie.Need-sub-result
+sub-result c = search needs
 
 returns-3 : tie.Need-returns-3
-returns-3 c = later-one _ _ _ _ _ (type-part (graph-of (c .before .before .before .before .before .before .before .before .before .before .pre .0)) _ _ (c .before .before .before .before .before .before .before .parse-field-reference .ensures)) (c .before .before .before .before .before .if1 .left) _ (part-is _ (c .before .before .part .given .1) (c .before .before .before .before .field-part .ensures)) _ (c .stands-after .ensures)
+returns-3 c = let a = c .before .before .before .before .args in later-some (a .places .now) (a .name) (a .j) (a .next) (c .before .before .if1 .left) (c .if2 .left)
 
 pub is-later-field-spec : {M : Type 1} → statement M
 is-later-field-spec =
     tie.close
     (tie.spec
-    parse-field-reference-requires
+    mul-if1
+    shared-slice-read-if1
     returns
-    field-part-requires
-    enum-known-part
-    enum-told
+    add-field
+    mul-field
+    shared-slice-read-field
+    cast-field
     returns-2
-    stands-after-requires
+    sub-result
     returns-3)

@@ -1,20 +1,32 @@
 -- `forward::start_in` meets its contract.
+use borrow.Author.Needs.{needs}
 use Rattle.forward.proofs.start_in.Statement.{statement}
 use Rattle.forward.proofs.start_in.Tie as tie
-use mathlib.Core.Path.{sym, _∙_}
-use Rattle.forward.proofs.SeenReferences.{definition-reads, seen-needed, seen-not-needed}
+use native.Mathlib.Omega.{arith}
+use Prim.Native.Nat.{_+_}
+use mathlib.Core.Path.{refl}
+use borrow.Author.Tests.{lt-ltb, le-ltb}
+use Rattle.notes.specs.Notes.{listsAt}
 
 returns : tie.Need-returns
-returns c = λ n j h. h (c .if1 .taken)
+returns c = rw (lt-ltb 0 _ (c .if1 .taken)) refl
 
-needs-references-requires : tie.Need-needs-references-requires
-needs-references-requires c κs = (definition-reads _ _ _ (c .before .before .pre .1), c .before .before .pre .0)
+add-result : tie.Need-add-result
+add-result c = search needs
+
+mul-result : tie.Need-mul-result
+mul-result c = search needs
+
+shared-slice-read-result : tie.Need-shared-slice-read-result
+shared-slice-read-result c = search needs
+
+cast-result : tie.Need-cast-result
+cast-result c = omega (arith, c .shared-slice-known .given (listsAt + c .before .before .args .i))
 
 returns-2 : tie.Need-returns-2
-returns-2 c = λ n j h. seen-needed _ _ _ (c .before .before .before .before .pre .1) n j (sym (c .if2 .taken) ∙ c .before .needs-references .ensures)
-
-returns-3 : tie.Need-returns-3
-returns-3 c = λ n j h. seen-not-needed _ _ _ (c .before .before .before .before .pre .1) n j (sym (c .if2 .left) ∙ c .before .needs-references .ensures)
+returns-2 c = rw (le-ltb 0 _ (c .before .if1 .left)) refl
 
 pub start-in-spec : {M : Type 1} → statement M
-start-in-spec = tie.close (tie.spec returns needs-references-requires returns-2 returns-3)
+start-in-spec =
+    tie.close
+    (tie.spec returns add-result mul-result shared-slice-read-result cast-result returns-2)
