@@ -87,7 +87,7 @@ module _ {count : ℕ} {edges : List ℕ} (s : Indexed count edges) where
     measured-none {to} (nowhere absent zeros) x l e = none-to (named count edges) (nameIn count edges x) to (λ d k. absent (toIn edges d) (s .tos d k)) (absent x l)
     measured-none (at b inside is far) x l e = chain-is inside is x l ∙ ap (Option·map (map (f s small))) (chain-no ends far x l e)
 
-    pub measured-chain : {to : ℕ} {work : List ℕ} → Measured count edges to work → (x : ℕ) → x < namesIn edges → 0 < farIn work x
+    measured-chain : {to : ℕ} {work : List ℕ} → Measured count edges to work → (x : ℕ) → x < namesIn edges → 0 < farIn work x
         → (names : List ℕ) × (chainOf (named count edges) (nameIn count edges x) to ≡ some names) × (length names ≡ farIn work x)
     measured-chain (nowhere absent zeros) x l e = absurd (omega (arith, zeros x l))
     measured-chain (at b inside is far) x l e =
