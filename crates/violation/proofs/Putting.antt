@@ -115,3 +115,11 @@ record-size kind definition n names chain h = sym (ap length (record-items kind 
 pub record-out : (kind definition n count : ℕ) (names chain : List ℕ) {out : List ℕ} {at : ℕ} → length out ≤ at → count ≤ length chain → length names ≤ 4
     → Puts (bytes (violationItems (violation kind definition n names (take count chain)))) out at out (at + 16 + 3 * count)
 record-out kind definition n count names chain l w few = puts-out l (omega (arith, record-size kind definition n names (take count chain) few, length-take-le count chain w))
+
+-- chains of as many names make records of as many bytes
+pub record-alike : (kind definition n : ℕ) (names chain chain′ : List ℕ) → length chain ≡ length chain′
+    → length (bytes (violationItems (violation kind definition n names chain))) ≡ length (bytes (violationItems (violation kind definition n names chain′)))
+record-alike kind definition n names chain chain′ e =
+    let size : (c : List ℕ) → length (bytes (pathItems names ++ chainItems c)) ≡ length (bytes (pathItems names)) + 2 + 3 * length c =
+            λ c. ap length (bytes-append (pathItems names) (chainItems c)) ∙ omega (arith, length-append (bytes (pathItems names)) (bytes (chainItems c)), links-size c) in
+    omega (arith, size chain, size chain′)
