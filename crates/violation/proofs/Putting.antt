@@ -121,5 +121,5 @@ pub record-alike : (kind definition n : ℕ) (names chain chain′ : List ℕ) �
     → length (bytes (violationItems (violation kind definition n names chain))) ≡ length (bytes (violationItems (violation kind definition n names chain′)))
 record-alike kind definition n names chain chain′ e =
     let size : (c : List ℕ) → length (bytes (pathItems names ++ chainItems c)) ≡ length (bytes (pathItems names)) + 2 + 3 * length c =
-            λ c. ap length (bytes-append (pathItems names) (chainItems c)) ∙ omega (arith, length-append (bytes (pathItems names)) (bytes (chainItems c)), links-size c) in
+    λ c. ap length (bytes-append (pathItems names) (chainItems c)) ∙ omega (arith, length-append (bytes (pathItems names)) (bytes (chainItems c)), links-size c) in
     omega (arith, size chain, size chain′)
