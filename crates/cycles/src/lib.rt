@@ -15,7 +15,7 @@ ghost use Rattle.meaning.specs.Violations.{findLayoutDependencyChain, checkEnum
 ghost use Rattle.bundle.specs.Definitions.{bundleOf, Table};
 ghost use Rattle.bundle.specs.Opened.{LayoutOf};
 ghost use Rattle.chain.specs.Found.{Answers};
-ghost use Rattle.search.specs.Work.{listIn, Lent};
+ghost use Rattle.search.specs.Work.{listIn, Lent, IfWanted};
 ghost use Rattle.sizes.specs.Paths.{Fit};
 ghost use Rattle.sizes.specs.Scan.{pathAt};
 ghost use Rattle.sizes.specs.Tests.{Acyclic, Kept};
@@ -23,19 +23,28 @@ ghost use Rattle.field_index.specs.Noted.{Noted};
 ghost use Rattle.containers.specs.Containers.{heldIn, Known};
 ghost use Rattle.checks.specs.Checks.{targetAt, typePart, Checked, GraphOf, EdgesPrepared};
 
-// The chain between two names over the edges of the bundle, into the list. All searches with the same slice `work` are to one name.
+// The reference that is checked: the name of the definition that has it, where it is written, and whether its chain is wanted in the list.
+pub struct Asked {
+    pub name: u16,
+    pub path: usize,
+    pub wanted: bool,
+}
+
+// The chain between two names over the edges of the bundle, into the list if it is wanted there. All searches with the same slice `work`
+// are to one name.
 fn find_layout_dependency_chain(
     s: &[u8],
     layout: Layout,
     from: u16,
     to: u16,
+    wanted: bool,
     edges: &[u16],
     work: &mut [u16],
 ) -> Found
     requires { ⌜ GraphOf (now s) layout × EdgesPrepared (now s) layout (now edges) × Lent (layout .edges) (now edges) to (now work) ⌝ }
-    ensures { λ r. ⌜ Answers (findLayoutDependencyChain (bundleOf (now (s .entry))) from to) (listIn (layout .edges) (now (work .exit))) r × Lent (layout .edges) (now (edges .entry)) to (now (work .exit)) ⌝ }
+    ensures { λ r. ⌜ IfWanted wanted (listIn (layout .edges) (now (work .exit))) (λ list. Answers (findLayoutDependencyChain (bundleOf (now (s .entry))) from to) list r) × Lent (layout .edges) (now (edges .entry)) to (now (work .exit)) ⌝ }
 {
-    search::find(edges, layout.edges, from, to, work)
+    search::find(edges, layout.edges, from, to, wanted, work)
 }
 
 // Type 1, for an enum in the struct `container` that the reference at `path` leads into; `held` is what is kept for the two names.
@@ -82,24 +91,25 @@ fn size_depends(
     size_tests::type_size_depends_on_field_refs(s, places, count, kept, i)
 }
 
-// Types 1 and 2, for the reference at `path` of an enum's tag. `kept` has the size test's answers, and `known` those for the names to which
-// the tag refers.
+// Types 1 and 2, for a reference of an enum's tag. `kept` has the size test's answers, and `known` those for the names to which the tag
+// refers.
 pub fn check_enum_tag_layout_cycle(
     s: &[u8],
     places: &[u16],
     layout: Layout,
     kept: &mut [u8; bundle::DEFINITIONS],
     known: &mut [u16; containers::KNOWN],
-    name: u16,
-    path: usize,
+    asked: Asked,
     edges: &[u16],
     work: &mut [u16],
 ) -> Check
-    requires { ⌜ EdgesPrepared (now s) layout (now edges) × Lent (layout .edges) (now edges) name (now work) × Fit (now s) path ⌝ }
-    requires { ⌜ LayoutOf (now s) layout (now places) × Acyclic (now s) × Kept (now s) false (now kept) × Noted (now s) (now places) (layout .definitions) × Known (now s) name (now known) ⌝ }
-    ensures { λ r. ⌜ Checked (now (s .entry)) name (listIn (layout .edges) (now (work .exit))) r (λ i. checkEnumTagLayoutCycle (bundleOf (now (s .entry))) i name (pathAt (now (s .entry)) path)) × Kept (now (s .entry)) false (now (kept .exit)) × Lent (layout .edges) (now (edges .entry)) name (now (work .exit)) × Known (now (s .entry)) name (now (known .exit)) ⌝ }
+    requires { ⌜ EdgesPrepared (now s) layout (now edges) × Lent (layout .edges) (now edges) (asked .name) (now work) × Fit (now s) (asked .path) ⌝ }
+    requires { ⌜ LayoutOf (now s) layout (now places) × Acyclic (now s) × Kept (now s) false (now kept) × Noted (now s) (now places) (layout .definitions) × Known (now s) (asked .name) (now known) ⌝ }
+    ensures { λ r. ⌜ IfWanted (asked .wanted) (listIn (layout .edges) (now (work .exit))) (λ list. Checked (now (s .entry)) (asked .name) list r (λ i. checkEnumTagLayoutCycle (bundleOf (now (s .entry))) i (asked .name) (pathAt (now (s .entry)) (asked .path)))) × Kept (now (s .entry)) false (now (kept .exit)) × Lent (layout .edges) (now (edges .entry)) (asked .name) (now (work .exit)) × Known (now (s .entry)) (asked .name) (now (known .exit)) ⌝ }
 {
     let count = layout.definitions;
+    let name = asked.name;
+    let path = asked.path;
     let target = sizes::parse_field_reference(s, path, layout.current);
     let container = containers::container_of(s, places, count, known, name, target.name);
     if 1 < container {
@@ -118,28 +128,45 @@ pub fn check_enum_tag_layout_cycle(
     if !size_depends(s, places, count, kept, name) {
         return Check::Fine;
     }
-    let found = find_layout_dependency_chain(s, layout, target.name, name, edges, work);
+    let found = find_layout_dependency_chain(
+        s,
+        layout,
+        target.name,
+        name,
+        asked.wanted,
+        edges,
+        work,
+    );
     match found {
         Found::Missing => Check::Fine,
         Found::Chain(n) => Check::EnumCycle(path, n),
     }
 }
 
-// Type 3, for the reference at `path` of an array's size.
+// Type 3, for a reference of an array's size.
 pub fn check_array_size_layout_cycle(
     s: &[u8],
     layout: Layout,
-    name: u16,
-    path: usize,
+    asked: Asked,
     edges: &[u16],
     work: &mut [u16],
 ) -> Check
-    requires { ⌜ EdgesPrepared (now s) layout (now edges) × Lent (layout .edges) (now edges) name (now work) × Fit (now s) path ⌝ }
+    requires { ⌜ EdgesPrepared (now s) layout (now edges) × Lent (layout .edges) (now edges) (asked .name) (now work) × Fit (now s) (asked .path) ⌝ }
     requires { ⌜ GraphOf (now s) layout ⌝ }
-    ensures { λ r. ⌜ Checked (now (s .entry)) name (listIn (layout .edges) (now (work .exit))) r (λ i. checkArraySizeLayoutCycle (bundleOf (now (s .entry))) i name (pathAt (now (s .entry)) path)) × Lent (layout .edges) (now (edges .entry)) name (now (work .exit)) ⌝ }
+    ensures { λ r. ⌜ IfWanted (asked .wanted) (listIn (layout .edges) (now (work .exit))) (λ list. Checked (now (s .entry)) (asked .name) list r (λ i. checkArraySizeLayoutCycle (bundleOf (now (s .entry))) i (asked .name) (pathAt (now (s .entry)) (asked .path)))) × Lent (layout .edges) (now (edges .entry)) (asked .name) (now (work .exit)) ⌝ }
 {
+    let name = asked.name;
+    let path = asked.path;
     let target = sizes::parse_field_reference(s, path, layout.current);
-    let found = find_layout_dependency_chain(s, layout, target.name, name, edges, work);
+    let found = find_layout_dependency_chain(
+        s,
+        layout,
+        target.name,
+        name,
+        asked.wanted,
+        edges,
+        work,
+    );
     match found {
         Found::Missing => Check::Fine,
         Found::Chain(n) => Check::ArrayCycle(path, n),

@@ -57,7 +57,7 @@ fn find_with(
     ensures { λ r. ⌜ Call (result (chainNames (chainOf (graphAt (now (bytes .entry)) at count) from to))) (now (list .entry)) (now (list .exit)) (answerMeant r) ⌝ }
 {
     chain::prepare(bytes, at, count, edges);
-    let found = search::find(edges, count, from, to, work);
+    let found = search::find(edges, count, from, to, true, work);
     let names = 6 * count + 1;
     answer_for(found, &work[names..], list)
 }

@@ -3,6 +3,7 @@
 --     hop-on                          a hop leads to a number that is one edge nearer
 --     first-along                     the first walk goes along the hops
 --     chain-along, chain-no           so does the chain; where a number is not reached there is none
+--     chain-size                      where it is reached, the chain has as many names as it is far
 use Prim.Native.Nat.{ℕ, zero, suc, _+_, _≤_, _<_}
 use mathlib.Core.Path.{_≡_, refl, sym, ap, _∙_, subst}
 use mathlib.Core.Logic.{_⊎_, inl, inr, ⊎-elim, by-cases}
@@ -10,9 +11,9 @@ use mathlib.Core.List.{List, [], _∷_}
 use mathlib.Core.Option.{Option, none, some}
 use native.Mathlib.Omega.{arith}
 use native.Mathlib.Decide.{ℕ-discrete, decLt}
-use lib.ListN.{length}
-use Rattle.meaning.specs.Chain.{Graph, IsWalk, Earlier, Before, fewer, earlier, IsFirstWalk, namesOn, chainOf}
-use Rattle.meaning.proofs.ChainLaws.{firstWalk-is, firstWalk-no}
+use lib.ListN.{length, length-map}
+use Rattle.meaning.specs.Chain.{Graph, IsWalk, Earlier, Before, fewer, earlier, IsFirstWalk, firstWalk, namesOn, chainOf}
+use Rattle.meaning.proofs.ChainLaws.{firstWalk-none, firstWalk-some, firstWalk-is, firstWalk-no, first-shortest}
 use Rattle.meaning.proofs.Walks.{order}
 use Rattle.search.specs.Seeking.{Far, Nearer, HopOf, Hops}
 use Rattle.search.specs.Work.{along}
@@ -134,3 +135,14 @@ module _ {g : Graph} {m : ℕ} {far : ℕ → ℕ} where
     pub chain-no : (x : ℕ) → x < m → far x ≡ 0 → chainOf g x b ≡ none
     unfolding chainOf
     chain-no x a e = rw (firstWalk-no g x b (λ fs w. omega (arith, f .least x a fs w .0)))
+
+    pub chain-size : (x : ℕ) → x < m → 0 < far x → (names : List ℕ) × (chainOf g x b ≡ some names) × (length names ≡ far x)
+    unfolding chainOf
+    chain-size x a l = let w = f .walks x a l in go (w .0) (w .1) (w .2) (firstWalk g x b) refl
+      where
+        go : (ws : List ℕ) → IsWalk g x ws b → length ws + 1 ≡ far x → (o : Option (List ℕ)) → firstWalk g x b ≡ o
+            → (names : List ℕ) × (chainOf g x b ≡ some names) × (length names ≡ far x)
+        go ws w s none q = absurd (firstWalk-none g x b q ws w)
+        go ws w s (some es) q =
+            let t = firstWalk-some g x b es q in
+            (namesOn g x es, rw q, omega (arith, length-map es (g .to), first-shortest g x b es ws t w, f .least x a es (t .walk) .1))

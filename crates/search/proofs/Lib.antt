@@ -3,3 +3,4 @@ pub mod Distances
 pub mod Turns
 pub mod Reading
 pub mod Lists
+pub mod Wanted

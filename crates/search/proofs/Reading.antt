@@ -1,19 +1,21 @@
 -- Chains read off from what a search leaves.
 --     measured-kept, -small, -none   it hangs on how far each number is; none is too far; one that is not reached has no chain
 --     sought                         what the hops add
---     sought-short                   no number is farther than there are edges
+--     measured-chain, -short         one that is has a chain of as many names as it is far, and is no farther than there are edges
 --     filling-start, -next, -end     the names along the hops, written one after another
 --     from-none, from-unreached, from-reached      the chain from a name that has no number, is not reached, or is
+--     from-counted                                 and where it is not read off
 --     sought-kept, lent-kept                       what was left stays where only the list changes
 --     far-kept, lent-measured, lent-sought         what place 0 says after the search, and after the hops
 use Prim.Native.Nat.{ℕ, zero, suc, _+_, _-_, _*_, _≤_, _<_}
+use mathlib.Core.Bool.{Bool, false}
 use mathlib.Core.Path.{_≡_, refl, sym, ap, ap₂, _∙_, subst}
 use mathlib.Core.List.{List, [], _∷_, _++_, map}
 use mathlib.Core.Option.{Option, none, some, Option·map}
 use native.Mathlib.Omega.{arith}
 use native.Mathlib.Numerals.{add-one}
-use lib.ListN.{length, length-set, length-map, length-drop, getD, set, take}
-use lib.Seq.{getD-set-other, getD-set-same, drop-set-add, take-suc-set, append-snoc}
+use lib.ListN.{length, length-set, length-map, length-drop, length-append, getD, set, take, drop}
+use lib.Seq.{getD-set-other, getD-set-same, drop-set-add, take-suc-set, append-snoc, take-at, length-front, length-take-le}
 use Rattle.meaning.specs.Chain.{chainOf}
 use Rattle.meaning.proofs.ChainLaws.{none-from, none-to, chain-self}
 use Rattle.meaning.proofs.Chains.{chain-length}
@@ -22,14 +24,9 @@ use Rattle.chain.specs.Found.{Stands}
 use Rattle.chain.specs.Index.{namesIn, nameIn, fromIn, toIn, numbered, named, Indexed}
 use Rattle.chain.proofs.Named.{f, name-of, chain-named}
 use Rattle.search.specs.Seeking.{Off}
-use Rattle.search.specs.Work.{farIn, hopIn, listIn, along, FarFrom, Hopped, Below, Measured, nowhere, at, Sought, Lent}
-use Rattle.search.proofs.Distances.{hop-on, chain-along, chain-no}
-
--- as many numbers as there are hops, and one
-along-length : (hop : ℕ → ℕ) (k x : ℕ) → length (along hop k x) ≡ suc k
-unfolding along
-along-length hop zero x = refl
-along-length hop (suc k) x = ap suc (along-length hop k (hop x))
+use Rattle.search.specs.Work.{farIn, hopIn, listIn, along, FarFrom, Hopped, Below, Measured, nowhere, at, Sought, Lent, IfWanted}
+use Rattle.search.proofs.Distances.{hop-on, chain-along, chain-no, chain-size}
+use Rattle.search.proofs.Wanted.{wanted-not}
 
 module _ {m : ℕ} {far hop : ℕ → ℕ} (on : (x k : ℕ) → x < m → far x ≡ suc (suc k) → (hop x < m) × (far (hop x) ≡ suc k)) where
   -- functions that are one on the numbers name them alike
@@ -90,6 +87,16 @@ module _ {count : ℕ} {edges : List ℕ} (s : Indexed count edges) where
     measured-none {to} (nowhere absent zeros) x l e = none-to (named count edges) (nameIn count edges x) to (λ d k. absent (toIn edges d) (s .tos d k)) (absent x l)
     measured-none (at b inside is far) x l e = chain-is inside is x l ∙ ap (Option·map (map (f s small))) (chain-no ends far x l e)
 
+    measured-chain : {to : ℕ} {work : List ℕ} → Measured count edges to work → (x : ℕ) → x < namesIn edges → 0 < farIn work x
+        → (names : List ℕ) × (chainOf (named count edges) (nameIn count edges x) to ≡ some names) × (length names ≡ farIn work x)
+    measured-chain (nowhere absent zeros) x l e = absurd (omega (arith, zeros x l))
+    measured-chain (at b inside is far) x l e =
+        let t = chain-size ends far x l e in
+        (map (f s small) (t .0), chain-is inside is x l ∙ ap (Option·map (map (f s small))) (t .1), length-map (t .0) (f s small) ∙ t .2)
+
+    pub measured-short : {to : ℕ} {work : List ℕ} → Measured count edges to work → (x : ℕ) → x < namesIn edges → 0 < farIn work x → farIn work x ≤ count + 1
+    measured-short {to} q x l e = let t = measured-chain q x l e in omega (arith, t .2, chain-length (named count edges) (nameIn count edges x) to (t .0) (t .1))
+
     module _ {work work′ : List ℕ} (hops : Hopped count edges work 0 work′) where
       same : (x : ℕ) → farIn work x ≡ farIn work′ x
       same x = sym (hops .same x)
@@ -113,15 +120,6 @@ module _ {count : ℕ} {edges : List ℕ} (s : Indexed count edges) where
           }
 
   module _ {to : ℕ} {work : List ℕ} (q : Sought count edges to work) where
-    pub sought-short : (x : ℕ) → x < namesIn edges → farIn work x ≤ count + 1
-    sought-short x l = go (farIn work x) refl
-      where
-        go : (n : ℕ) → farIn work x ≡ n → n ≤ count + 1
-        go zero e = omega arith
-        go (suc k) e =
-            let names = map (nameIn count edges) (along (hopIn work) k x) in
-            omega (arith, chain-length (named count edges) (nameIn count edges x) to names (q .some x k l e), length-map (along (hopIn work) k x) (nameIn count edges), along-length (hopIn work) k x)
-
     sought-kept : {work′ : List ℕ} → ((i : ℕ) → 0 < i → i < 6 * count + 1 → getD work′ i 0 ≡ getD work i 0) → Sought count edges to work′
     sought-kept {work′} same =
         record {
@@ -232,17 +230,31 @@ module _ {count : ℕ} {edges : List ℕ} (s : Indexed count edges) where
       pub from-unreached : ((i : ℕ) → getD edges i 0 < 65536) → Measured count edges to work → farIn work r ≡ 0 → chainOf (named count edges) from to ≡ none
       from-unreached small q e = subst (λ (z : ℕ). chainOf (named count edges) z to ≡ none) (place .here l) (measured-none small q r l e)
 
-      pub from-reached : Sought count edges to work → (work′ : List ℕ) {n : ℕ} → (n ≡ 0 → ⊥) → farIn work r ≡ n → 7 * count + 5 ≤ length work′
+      pub from-reached : Sought count edges to work → (work′ : List ℕ) {n : ℕ} → (n ≡ 0 → ⊥) → farIn work r ≡ n → n ≤ count + 1 → 7 * count + 5 ≤ length work′
           → ((k : ℕ) → n ≡ suc k → take n (listIn count work′) ≡ map (nameIn count edges) (along (hopIn work) k r))
           → Stands (chainOf (named count edges) from to) (listIn count work′) n
-      from-reached q work′ {n} ne e room names =
+      from-reached q work′ {n} ne e short room names =
           let p : n ≡ suc (n - 1) = omega arith in
-          let short = sought-short q r l in
           record {
             is = subst (λ (z : ℕ). chainOf (named count edges) z to ≡ some (take n (listIn count work′))) (place .here l) (q .some r (n - 1) l (e ∙ p) ∙ ap {B = Option (List ℕ)} some (sym (names (n - 1) p)));
-            short = omega (arith, short, s .few);
-            room = omega (arith, short, length-drop (6 * count + 1) work′);
+            short = omega (arith, s .few);
+            room = omega (arith, length-drop (6 * count + 1) work′);
           }
+
+      pub from-counted : ((i : ℕ) → getD edges i 0 < 65536) → Measured count edges to work → {n : ℕ} → (n ≡ 0 → ⊥) → farIn work r ≡ n → 7 * count + 5 ≤ length work
+          → {wanted : Bool} → wanted ≡ false → IfWanted wanted (listIn count work) (λ list. Stands (chainOf (named count edges) from to) list n)
+      from-counted small q {n} ne e room w =
+          let t = measured-chain small q r l (omega arith) in
+          let size : length (t .0) ≡ n = t .2 ∙ e in
+          let short = measured-short small q r l (omega arith) in
+          let fits : n ≤ length (listIn count work) = omega (arith, length-drop (6 * count + 1) work) in
+          wanted-not w (t .0 ++ drop n (listIn count work)) (length-front (listIn count work) (t .0) n (size ∙ sym (length-take-le n (listIn count work) fits)))
+          (record {
+            is = subst (λ (z : ℕ). chainOf (named count edges) z to ≡ some (t .0)) (place .here l) (t .1)
+                ∙ ap {B = Option (List ℕ)} some (sym (take-at (t .0) (drop n (listIn count work)) n size));
+            short = omega (arith, s .few);
+            room = omega (arith, length-append (t .0) (drop n (listIn count work)));
+          })
 
   -- one name in the list
   module _ (work : List ℕ) (a : ℕ) (room : 7 * count + 5 ≤ length work) where

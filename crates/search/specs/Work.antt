@@ -2,6 +2,7 @@
 -- it is, an entry of the queue, and the number that its chain goes on to. Behind them stands the list for a chain.
 use Prim.Native.Nat.{ℕ, zero, suc, _+_, _*_, _≤_, _<_}
 use mathlib.Core.Path.{_≡_}
+use mathlib.Core.Bool.{Bool, true}
 use mathlib.Core.List.{List, [], _∷_, map}
 use mathlib.Core.Option.{some}
 use lib.ListN.{length, getD, drop, set}
@@ -67,3 +68,10 @@ pub data Added (work : List ℕ) (n x far : ℕ) (work′ : List ℕ) (r : ℕ) 
 pub record Below (count : ℕ) (work work′ : List ℕ) : Type 0 where
   pub same : (i : ℕ) → i < 6 * count + 1 → getD work′ i 0 ≡ getD work i 0
   pub size : length work′ ≡ length work
+
+-- what is said of the list, if a chain is wanted in it; else of some list of as many places
+pub record IfWanted (wanted : Bool) (list : List ℕ) (P : List ℕ → Type 0) : Type 0 where
+  pub meant : List ℕ
+  pub size : length meant ≡ length list
+  pub same : wanted ≡ true → meant ≡ list
+  pub holds : P meant

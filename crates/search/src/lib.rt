@@ -1,6 +1,6 @@
 // The search for chains to one name over prepared edges: one search backwards from the name says how far each name is from it. Where a name
-// is reached, the hops say where each chain goes on, and its chain is read off; they are set once, before the first chain is. The slice that
-// is lent has places that follow from the count of the edges:
+// is reached, the hops say where each chain goes on, and its chain is read off if it is wanted; they are set once, before the first chain is.
+// The slice that is lent has places that follow from the count of the edges:
 //     0                     0 where no search was made, 1 where it is known how far each number is, 2 where the hops are set too
 //     3 x + 1               how far the number x is from the name: one more than the fewest edges, and 0 where it is not reached
 //     3 i + 2               entry i of the queue, a number
@@ -14,7 +14,7 @@ ghost use lib.ListN.{length, getD, take};
 ghost use Rattle.meaning.specs.Chain.{chainOf};
 ghost use Rattle.chain.specs.Found.{Answers};
 ghost use Rattle.chain.specs.Index.{namesIn, nameIn, named, Indexed};
-ghost use Rattle.search.specs.Work.{farIn, hopIn, listIn, along, Exploring, FarFrom, Hopped, Added, Below, Measured, Sought, Lent};
+ghost use Rattle.search.specs.Work.{farIn, hopIn, listIn, along, Exploring, FarFrom, Hopped, Added, Below, Measured, Sought, Lent, IfWanted};
 
 // How many places are lent: for a search over few edges, and over as many as a bundle can have.
 pub const FEW_PLACES: usize = 7 * chain::FEW_EDGES + 5;
@@ -138,10 +138,10 @@ fn fill(edges: &[u16], count: usize, x: usize, n: usize, work: &mut [u16])
     }
 }
 
-// The chain from `from`, another name than the one that was searched from, into the list.
-fn chain_from(edges: &[u16], count: usize, from: u16, work: &mut [u16]) -> Found
+// The chain from `from`, another name than the one that was searched from, into the list if it is wanted there.
+fn chain_from(edges: &[u16], count: usize, from: u16, wanted: bool, work: &mut [u16]) -> Found
     requires { ⌜ Indexed count (now edges) × ((to : ℕ) × Lent count (now edges) to (now work)) × (getD (now work) 0 0 ≡ 0 → ⊥) ⌝ }
-    ensures { λ r. ⌜ ((to : ℕ) → Lent count (now (edges .entry)) to (now (work .entry)) → (from ≡ to → ⊥) → Answers (chainOf (named count (now (edges .entry))) from to) (listIn count (now (work .exit))) r × Lent count (now (edges .entry)) to (now (work .exit))) ⌝ }
+    ensures { λ r. ⌜ ((to : ℕ) → Lent count (now (edges .entry)) to (now (work .entry)) → (from ≡ to → ⊥) → IfWanted wanted (listIn count (now (work .exit))) (λ list. Answers (chainOf (named count (now (edges .entry))) from to) list r) × Lent count (now (edges .entry)) to (now (work .exit))) ⌝ }
 {
     let m = edges[0] as usize;
     let x = table::place_of(edges, 5 * count + 1, chain::BUCKETS, m, from);
@@ -152,8 +152,10 @@ fn chain_from(edges: &[u16], count: usize, from: u16, work: &mut [u16]) -> Found
     if n == 0 {
         return Found::Missing;
     }
-    with_hops(edges, count, work);
-    fill(edges, count, x, n, work);
+    if wanted {
+        with_hops(edges, count, work);
+        fill(edges, count, x, n, work);
+    }
     Found::Chain(n)
 }
 
@@ -169,16 +171,23 @@ fn ready(edges: &[u16], count: usize, to: u16, work: &mut [u16])
     work[0] = 1;
 }
 
-// The chain from `from` to `to` over `count` prepared edges, into the list. All calls with the same slice `work` are to one name, for
-// which the search is made once; place 0 of the slice is 0 before the first, and what else it holds is free.
-pub fn find(edges: &[u16], count: usize, from: u16, to: u16, work: &mut [u16]) -> Found
+// The chain from `from` to `to` over `count` prepared edges, into the list if it is wanted there. All calls with the same slice `work` are
+// to one name, for which the search is made once; place 0 of the slice is 0 before the first, and what else it holds is free.
+pub fn find(
+    edges: &[u16],
+    count: usize,
+    from: u16,
+    to: u16,
+    wanted: bool,
+    work: &mut [u16],
+) -> Found
     requires { ⌜ Indexed count (now edges) × Lent count (now edges) to (now work) ⌝ }
-    ensures { λ r. ⌜ Answers (chainOf (named count (now (edges .entry))) from to) (listIn count (now (work .exit))) r × Lent count (now (edges .entry)) to (now (work .exit)) ⌝ }
+    ensures { λ r. ⌜ IfWanted wanted (listIn count (now (work .exit))) (λ list. Answers (chainOf (named count (now (edges .entry))) from to) list r) × Lent count (now (edges .entry)) to (now (work .exit)) ⌝ }
 {
     if from == to {
         work[6 * count + 1] = from;
         return Found::Chain(1);
     }
     ready(edges, count, to, work);
-    chain_from(edges, count, from, work)
+    chain_from(edges, count, from, wanted, work)
 }

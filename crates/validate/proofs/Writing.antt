@@ -6,15 +6,15 @@ use mathlib.Core.Option.{Option, none, some}
 use mathlib.Core.Path.{_≡_, refl, sym, ap, subst, _∙_}
 use mathlib.Core.List.{List, [], _∷_, _++_, append-nil, map}
 use lib.Dec.{T, leb, leb→le, ltb}
-use borrow.Author.Tests.{lt-ltb}
-use lib.ListN.{length, getD, take, drop, length-append}
+use borrow.Author.Tests.{lt-ltb, ltb-false}
+use lib.ListN.{length, getD, take, drop, length-append, length-take}
 use lib.Seq.{length-take-le}
 use Rattle.names.specs.Documents.{bytes}
 use Rattle.meaning.specs.Kinds.{formOf, lookup}
 use Rattle.meaning.specs.Lists.{flatMap, filterMap, push, onlyIf}
 use Rattle.meaning.specs.Reader.{little, namesFrom}
 use Rattle.meaning.specs.Report.{violationItems}
-use Rattle.meaning.specs.Violations.{Violation, violation, checkEnumTagLayoutCycle, checkArraySizeLayoutCycle}
+use Rattle.meaning.specs.Violations.{Violation, violation, enumForward, enumCycle, arrayCycle, fieldForward, variableElement, jaggedReference, jaggedInline, nestedJagged, checkEnumTagLayoutCycle, checkArraySizeLayoutCycle}
 use Rattle.meaning.proofs.Lists.{flatMap-append}
 use Rattle.meaning.proofs.ExprSpans.{all-at}
 use Rattle.names.proofs.Items.{bytes-append}
@@ -25,7 +25,8 @@ use Rattle.sizes.proofs.PathLaws.{path-names}
 use Rattle.violation.specs.declared.Path.{Path}
 use Rattle.violation.specs.declared.Record.{Record}
 use Rattle.violation.specs.Records.{Puts, farthest, padded}
-use Rattle.violation.proofs.Putting.{puts-both, record-size, puts-size}
+use Rattle.violation.proofs.Putting.{puts-both, puts-alike, record-size, record-alike, puts-size}
+use Rattle.search.specs.Work.{IfWanted}
 use Rattle.checks.specs.declared.Check.{Check}
 use Rattle.checks.specs.declared.Check.the-variants as check
 use Rattle.checks.specs.Checks.{violationOf, Fitting, Checked, ReferenceIs}
@@ -244,6 +245,57 @@ of-tag s n x {list} {r} tag e c = subst (λ t. Checked s n list r (λ i. checkRe
 pub of-size : (s : List ℕ) (n x : ℕ) {list : List ℕ} {r : Check} (tag : Bool) → tag ≡ false → Checked s n list r (λ i. checkArraySizeLayoutCycle (bundleOf s) i n (pathAt s x))
     → Checked s n list r (λ i. checkReference tag (bundleOf s) i n (pathAt s x))
 of-size s n x {list} {r} tag e c = subst (λ t. Checked s n list r (λ i. checkReference t (bundleOf s) i n (pathAt s x))) (sym e) c
+
+-- the record of a chain that is not read off: behind the end it counts how many names there are, and not which
+module _ (s : List ℕ) (i n : ℕ) (list list′ : List ℕ) (e : length list ≡ length list′) where
+  take-alike : (k : ℕ) → length (take k list) ≡ length (take k list′)
+  take-alike k = rw (length-take k list, length-take k list′, e)
+
+  one-alike : (kind k : ℕ) (names : List ℕ) → length (recordBytes (violation kind i n names (take k list) ∷ [])) ≡ length (recordBytes (violation kind i n names (take k list′) ∷ []))
+  one-alike kind k names =
+      ap (λ xs. length (bytes xs)) (append-nil (violationItems (violation kind i n names (take k list))))
+      ∙ record-alike kind i n names (take k list) (take k list′) (take-alike k)
+      ∙ sym (ap (λ xs. length (bytes xs)) (append-nil (violationItems (violation kind i n names (take k list′)))))
+
+  all-alike : (c : Check) → (length (recordBytes (push (violationOf s i n list c) [])) ≡ length (recordBytes (push (violationOf s i n list′ c) [])))
+      × (length (push (violationOf s i n list c) []) ≡ length (push (violationOf s i n list′ c) []))
+  all-alike check.Fine = (refl, refl)
+  all-alike (check.EnumForward t f) = (one-alike enumForward 3 (t ∷ f ∷ []), refl)
+  all-alike (check.EnumCycle p k) = (one-alike enumCycle k (pathAt s p), refl)
+  all-alike (check.ArrayCycle p k) = (one-alike arrayCycle k (pathAt s p), refl)
+  all-alike (check.FieldForward p) = (one-alike fieldForward 3 (pathAt s p), refl)
+  all-alike check.VariableElement = (one-alike variableElement 1 [], refl)
+  all-alike check.JaggedReference = (one-alike jaggedReference 2 [], refl)
+  all-alike check.JaggedInline = (one-alike jaggedInline 1 [], refl)
+  all-alike check.NestedJagged = (one-alike nestedJagged 1 [], refl)
+
+module _ {s : List ℕ} {n : ℕ} {wanted : Bool} {list : List ℕ} {c : Check} {o : ℕ → Option Violation} (w : IfWanted wanted list (λ l. Checked s n l c o)) where
+  pub meant-fits : Fitting s (length list) c
+  meant-fits = subst (λ k. Fitting s k c) (w .size) (w .holds .fits)
+
+  module _ (i : ℕ) where
+    same : (length (recordBytes (push (violationOf s i n (w .meant) c) [])) ≡ length (recordBytes (push (violationOf s i n list c) [])))
+        × (length (push (violationOf s i n (w .meant) c) []) ≡ length (push (violationOf s i n list c) []))
+    same = all-alike s i n (w .meant) list (w .size) c
+
+    pub meant-room : {p : Position} → Room p (push (violationOf s i n (w .meant) c) []) → Room p (push (violationOf s i n list c) [])
+    meant-room r = record { far = r .far; few = omega (arith, r .few, same .1) }
+
+    pub meant-wrote : {out out′ : List ℕ} {p q : Position} → wanted ≡ ltb (p .at) (length out) → Wrote (push (violationOf s i n list c) []) out p out′ q
+        → Wrote (push (violationOf s i n (w .meant) c) []) out p out′ q
+    meant-wrote {out} {out′} {p} {q} e r = go wanted refl
+      where
+        go : (t : Bool) → wanted ≡ t → Wrote (push (violationOf s i n (w .meant) c) []) out p out′ q
+        go true z = subst (λ l. Wrote (push (violationOf s i n l c) []) out p out′ q) (sym (w .same z)) r
+        go false z = record {
+          puts = puts-alike (ltb-false (p .at) (length out) (sym e ∙ z)) (sym (same .0)) (r .puts);
+          counts = omega (arith, r .counts, same .1);
+          short = omega (arith, r .short, same .0, same .1);
+        }
+
+-- the list is a part of the workspace that is lent
+pub wanted-part : {wanted : Bool} {P : List ℕ → Type 0} (a : ℕ) (work : List ℕ) → IfWanted wanted (drop a work) P → IfWanted wanted (take (length work - a) (drop a work)) P
+wanted-part {wanted} {P} a work w = subst (λ (xs : List ℕ). IfWanted wanted xs P) (sym (whole-part a work)) w
 
 -- the chain stands in the part of the workspace that is lent
 pub checked-part : {s : List ℕ} {n : ℕ} (a : ℕ) (work : List ℕ) {r : Check} {o : ℕ → Option Violation} → Checked s n (drop a work) r o → Checked s n (take (length work - a) (drop a work)) r o

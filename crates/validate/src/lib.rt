@@ -2,6 +2,7 @@
 use bundle::Layout;
 use checks::Check;
 use checks::Reference;
+use cycles::Asked;
 use violation::Path;
 use violation::Record;
 ghost use mathlib.Core.Path.{_≡_};
@@ -13,7 +14,7 @@ ghost use Rattle.meaning.specs.Limits.{definitionLimit};
 ghost use Rattle.meaning.specs.Lists.{push};
 ghost use Rattle.bundle.specs.Definitions.{bundleOf};
 ghost use Rattle.bundle.specs.Opened.{LayoutOf};
-ghost use Rattle.search.specs.Work.{listIn, Lent};
+ghost use Rattle.search.specs.Work.{listIn, Lent, IfWanted};
 ghost use Rattle.sizes.specs.Paths.{Fit};
 ghost use Rattle.sizes.specs.Scan.{pathAt, referencesFrom, Fits};
 ghost use Rattle.sizes.specs.Tests.{Acyclic, Kept};
@@ -151,15 +152,14 @@ fn check_reference(
     layout: Layout,
     kept: &mut [u8; bundle::DEFINITIONS],
     known: &mut [u16; containers::KNOWN],
-    name: u16,
     tag: bool,
-    path: usize,
+    asked: Asked,
     edges: &[u16],
     work: &mut [u16],
 ) -> Check
-    requires { ⌜ EdgesPrepared (now s) layout (now edges) × Lent (layout .edges) (now edges) name (now work) × Fit (now s) path ⌝ }
-    requires { ⌜ LayoutOf (now s) layout (now places) × Acyclic (now s) × Kept (now s) false (now kept) × Noted (now s) (now places) (layout .definitions) × Known (now s) name (now known) ⌝ }
-    ensures { λ r. ⌜ Checked (now (s .entry)) name (listIn (layout .edges) (now (work .exit))) r (λ i. checkReference tag (bundleOf (now (s .entry))) i name (pathAt (now (s .entry)) path)) × Kept (now (s .entry)) false (now (kept .exit)) × Lent (layout .edges) (now (edges .entry)) name (now (work .exit)) × Known (now (s .entry)) name (now (known .exit)) ⌝ }
+    requires { ⌜ EdgesPrepared (now s) layout (now edges) × Lent (layout .edges) (now edges) (asked .name) (now work) × Fit (now s) (asked .path) ⌝ }
+    requires { ⌜ LayoutOf (now s) layout (now places) × Acyclic (now s) × Kept (now s) false (now kept) × Noted (now s) (now places) (layout .definitions) × Known (now s) (asked .name) (now known) ⌝ }
+    ensures { λ r. ⌜ IfWanted (asked .wanted) (listIn (layout .edges) (now (work .exit))) (λ list. Checked (now (s .entry)) (asked .name) list r (λ i. checkReference tag (bundleOf (now (s .entry))) i (asked .name) (pathAt (now (s .entry)) (asked .path)))) × Kept (now (s .entry)) false (now (kept .exit)) × Lent (layout .edges) (now (edges .entry)) (asked .name) (now (work .exit)) × Known (now (s .entry)) (asked .name) (now (known .exit)) ⌝ }
 {
     if tag {
         return cycles::check_enum_tag_layout_cycle(
@@ -168,16 +168,16 @@ fn check_reference(
             layout,
             kept,
             known,
-            name,
-            path,
+            asked,
             edges,
             work,
         );
     }
-    cycles::check_array_size_layout_cycle(s, layout, name, path, edges, work)
+    cycles::check_array_size_layout_cycle(s, layout, asked, edges, work)
 }
 
-// Checks each of the references, and writes what is found. All searches here are to one name, for which one is made.
+// Checks each of the references, and writes what is found. All searches here are to one name, for which one is made. A chain is read off
+// only where it is written.
 pub fn validate_references(
     s: &[u8],
     places: &[u16],
@@ -208,15 +208,19 @@ pub fn validate_references(
         let Reference::At(path, after) = reference else {
             return reached;
         };
+        let asked = Asked {
+            name: name,
+            path: path,
+            wanted: reached.at < out.len(),
+        };
         let check = check_reference(
             s,
             places,
             layout,
             kept,
             &mut known,
-            name,
             references.tag,
-            path,
+            asked,
             edges,
             work,
         );

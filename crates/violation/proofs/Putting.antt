@@ -5,7 +5,7 @@ use native.Mathlib.Numerals.{add-one}
 use mathlib.Core.Path.{_≡_, refl, sym, ap, ap₂, subst, _∙_}
 use mathlib.Core.List.{List, [], _∷_, _++_}
 use lib.ListN.{length, getD, set, take, length-append}
-use lib.Seq.{sets, length-sets, length-take-le, take-suc}
+use lib.Seq.{set-out, sets, length-sets, length-take-le, take-suc}
 use Rattle.names.specs.Documents.{Item, byte, name, bytes}
 use Rattle.meaning.specs.Lists.{flatMap}
 use Rattle.meaning.specs.Report.{twoBytes, pathItems, chainItems, violationItems}
@@ -66,6 +66,18 @@ module _ {chain : List ℕ} {count : ℕ} {out₀ : List ℕ} {next₀ : ℕ} {o
 pub puts-size : {xs out out′ : List ℕ} {at r : ℕ} → Puts xs out at out′ r → length out′ ≡ length out
 puts-size {xs} {out} {out′} {at} p = ap length (p .written) ∙ length-sets out at xs
 
+-- behind the end nothing is written: what is counted hangs on how many bytes there are
+sets-out : (out : List ℕ) (at : ℕ) (xs : List ℕ) → length out ≤ at → sets out at xs ≡ out
+sets-out out at [] l = refl
+sets-out out at (x ∷ xs) l = ap (λ ys. sets ys (suc at) xs) (set-out out at x l) ∙ sets-out out (suc at) xs (omega arith)
+
+module _ {out : List ℕ} {at : ℕ} (l : length out ≤ at) where
+  pub puts-out : {xs : List ℕ} {r : ℕ} → r ≡ at + length xs → Puts xs out at out r
+  puts-out {xs} e = record { written = sym (sets-out out at xs l); behind = e }
+
+  pub puts-alike : {xs ys out′ : List ℕ} {r : ℕ} → length xs ≡ length ys → Puts xs out at out′ r → Puts ys out at out′ r
+  puts-alike {xs} {ys} e p = record { written = p .written ∙ sets-out out at xs l ∙ sym (sets-out out at ys l); behind = omega (arith, p .behind) }
+
 -- the names of a path of at most four, and zeros
 path-items : (names : List ℕ) → length names ≤ 4 → pathBytes (padded names) ≡ bytes (pathItems names)
 path-items [] h = refl
@@ -98,3 +110,16 @@ links-size (n ∷ chain) = omega (arith, links-size chain)
 
 pub record-size : (kind definition n : ℕ) (names chain : List ℕ) → length names ≤ 4 → length (bytes (violationItems (violation kind definition n names chain))) ≡ 16 + 3 * length chain
 record-size kind definition n names chain h = sym (ap length (record-items kind definition n names chain h)) ∙ omega (arith, links-size chain)
+
+-- a record that starts behind the end
+pub record-out : (kind definition n count : ℕ) (names chain : List ℕ) {out : List ℕ} {at : ℕ} → length out ≤ at → count ≤ length chain → length names ≤ 4
+    → Puts (bytes (violationItems (violation kind definition n names (take count chain)))) out at out (at + 16 + 3 * count)
+record-out kind definition n count names chain l w few = puts-out l (omega (arith, record-size kind definition n names (take count chain) few, length-take-le count chain w))
+
+-- chains of as many names make records of as many bytes
+pub record-alike : (kind definition n : ℕ) (names chain chain′ : List ℕ) → length chain ≡ length chain′
+    → length (bytes (violationItems (violation kind definition n names chain))) ≡ length (bytes (violationItems (violation kind definition n names chain′)))
+record-alike kind definition n names chain chain′ e =
+    let size : (c : List ℕ) → length (bytes (pathItems names ++ chainItems c)) ≡ length (bytes (pathItems names)) + 2 + 3 * length c =
+    λ c. ap length (bytes-append (pathItems names) (chainItems c)) ∙ omega (arith, length-append (bytes (pathItems names)) (bytes (chainItems c)), links-size c) in
+    omega (arith, size chain, size chain′)

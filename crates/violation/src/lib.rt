@@ -73,7 +73,8 @@ fn put_chain(out: &mut [u8], at: usize, chain: &[u16], count: usize) -> usize
     next
 }
 
-// Writes the record of a violation of a definition by its number, whose name is `name` and whose chain stands in `chain`.
+// Writes the record of a violation of a definition by its number, whose name is `name` and whose chain stands in `chain`. A record behind
+// the end is only counted.
 pub fn put_violation(
     out: &mut [u8],
     at: usize,
@@ -86,6 +87,9 @@ pub fn put_violation(
     requires { ⌜ at + 16 + 3 * found .length ≤ farthest ⌝ }
     ensures { λ r. ⌜ ((names : List ℕ) → length names ≤ 4 → found .path ≡ padded names → Puts (bytes (violationItems (violation (found .kind) definition name names (take (found .length) (now (chain .entry)))))) (now (out .entry)) at (now (out .exit)) r) ⌝ }
 {
+    if out.len() <= at {
+        return at + 16 + 3 * found.length;
+    }
     let path = found.path;
     let number = put_byte(out, at, 0x70 + found.kind);
     let named = put_two(out, number, definition);

@@ -16,7 +16,7 @@ use Rattle.containers.specs.Containers.{Known}
 use Rattle.containers.proofs.Keeping.{known-start}
 use Rattle.checks.proofs.ForwardChecks.{reference-is, reference-no}
 use Rattle.validate.specs.Validating.{checkReference}
-use Rattle.validate.proofs.Writing.{put-fine, falls, checked-part, Referencing, referencing-start, referencing-room, referencing-next, referencing-end}
+use Rattle.validate.proofs.Writing.{put-fine, falls, wanted-part, meant-fits, meant-room, meant-wrote, Referencing, referencing-start, referencing-room, referencing-next, referencing-end}
 
 abbrev Inv-loop : tie.InvT-loop
 Inv-loop s places layout kept₀ references edges work₀ out₀ i name end list known₀ next₀ reached₀ kept work out known next reached =
@@ -57,13 +57,13 @@ returns : tie.Need-returns Inv-loop μ-loop
 returns c = (referencing-end (c .before .before .before .before .loop .inv .0) (reference-no _ _ _ (c .enum-told .given .1) (c .before .before .reference-at .ensures)), c .before .before .before .before .loop .inv .1)
 
 check-reference-requires : tie.Need-check-reference-requires Inv-loop μ-loop
-check-reference-requires c κs = ((c .before .before .before .before .before .before .before .before .before .before .before .before .before .before .before .pre .0 .0, c .before .before .before .before .before .before .before .before .loop .inv .2, (reference-is _ _ _ (c .before .before .before .before .reference .given .1) (c .before .before .before .before .before .before .reference-at .ensures)) .fit), (c .before .before .before .before .before .before .before .before .before .before .before .before .before .before .before .pre .1 .0 .0, c .before .before .before .before .before .before .before .before .before .before .before .before .before .before .before .pre .1 .0 .1, c .before .before .before .before .before .before .before .before .loop .inv .1, c .before .before .before .before .before .before .before .before .before .before .before .before .before .before .before .pre .1 .0 .4, c .before .before .before .before .before .before .before .before .loop .inv .3))
+check-reference-requires c κs = ((c .before .before .before .before .before .before .before .before .before .before .before .before .before .before .before .before .pre .0 .0, c .before .before .before .before .before .before .before .before .before .loop .inv .2, (reference-is _ _ _ (c .before .before .before .before .before .reference .given .1) (c .before .before .before .before .before .before .before .reference-at .ensures)) .fit), (c .before .before .before .before .before .before .before .before .before .before .before .before .before .before .before .before .pre .1 .0 .0, c .before .before .before .before .before .before .before .before .before .before .before .before .before .before .before .before .pre .1 .0 .1, c .before .before .before .before .before .before .before .before .before .loop .inv .1, c .before .before .before .before .before .before .before .before .before .before .before .before .before .before .before .before .pre .1 .0 .4, c .before .before .before .before .before .before .before .before .before .loop .inv .3))
 
 enum-told-2 : tie.Need-enum-told-2 Inv-loop μ-loop
 enum-told-2 c = search needs
 
 mul-put-check : tie.Need-mul-put-check Inv-loop μ-loop
-mul-put-check c = omega (arith, c .before .before .before .before .before .before .before .before .before .before .before .before .before .before .before .before .before .before .before .before .pre .1 .0 .0 .few)
+mul-put-check c = omega (arith, c .before .before .before .before .before .before .before .before .before .before .before .before .before .before .before .before .before .before .before .before .before .pre .1 .0 .0 .few)
 
 sub-put-check : tie.Need-sub-put-check Inv-loop μ-loop
 sub-put-check c = omega (arith, c .before .before .before .before .check-reference .ensures .2 .room)
@@ -75,21 +75,21 @@ part-put-check-end : tie.Need-part-put-check-end Inv-loop μ-loop
 part-put-check-end c = omega (arith, c .before .before .before .before .before .check-reference .ensures .2 .room)
 
 put-check-requires : tie.Need-put-check-requires Inv-loop μ-loop
-put-check-requires c κs = let p = (checked-part (6 * c .before .before .before .before .before .before .before .before .before .before .before .before .before .before .before .before .before .before .before .before .before .before .args .layout .edges + 1) (c .before .before .before .before .before .before .check-reference .last .1 .1 .1 .1 .1 .1 .1 .1 .1 .0) (c .before .before .before .before .before .before .check-reference .ensures .0)) in
-    ((c .before .before .before .before .before .before .before .before .before .before .before .before .before .before .before .before .before .before .before .before .before .before .pre .1 .0 .3, p .fits), referencing-room (c .before .before .before .before .before .before .before .before .before .before .before .before .before .before .before .loop .inv .0) (reference-is _ _ _ (c .before .before .before .before .before .before .before .before .before .before .before .reference .given .1) (c .before .before .before .before .before .before .before .before .before .before .before .before .before .reference-at .ensures)) _ (p .means _))
+put-check-requires c κs = let p = (wanted-part (6 * c .before .before .before .before .before .before .before .before .before .before .before .before .before .before .before .before .before .before .before .before .before .before .before .args .layout .edges + 1) (c .before .before .before .before .before .before .check-reference .last .1 .1 .1 .1 .1 .1 .1 .1 .0) (c .before .before .before .before .before .before .check-reference .ensures .0)) in
+    ((c .before .before .before .before .before .before .before .before .before .before .before .before .before .before .before .before .before .before .before .before .before .before .before .pre .1 .0 .3, meant-fits p), meant-room p _ (referencing-room (c .before .before .before .before .before .before .before .before .before .before .before .before .before .before .before .before .loop .inv .0) (reference-is _ _ _ (c .before .before .before .before .before .before .before .before .before .before .before .before .reference .given .1) (c .before .before .before .before .before .before .before .before .before .before .before .before .before .before .reference-at .ensures)) _ (p .holds .means _)))
 
 loop-less : tie.Need-loop-less Inv-loop μ-loop
-loop-less c = falls (c .before .before .before .before .before .before .before .before .before .before .before .before .loop-test .taken) ((reference-is _ _ _ (c .before .before .before .before .before .before .before .before .before .reference .given .1) (c .before .before .before .before .before .before .before .before .before .before .before .reference-at .ensures)) .forward)
+loop-less c = falls (c .before .before .before .before .before .before .before .before .before .before .before .before .before .loop-test .taken) ((reference-is _ _ _ (c .before .before .before .before .before .before .before .before .before .before .reference .given .1) (c .before .before .before .before .before .before .before .before .before .before .before .before .reference-at .ensures)) .forward)
 
 loop-again : tie.Need-loop-again Inv-loop μ-loop
-loop-again c = (referencing-next (c .before .before .before .before .before .before .before .before .before .before .before .before .before .loop .inv .0) (reference-is _ _ _ (c .before .before .before .before .before .before .before .before .before .reference .given .1) (c .before .before .before .before .before .before .before .before .before .before .before .reference-at .ensures)) _ (c .before .before .before .before .check-reference .ensures .0 .means _) (c .before .before .before .before .check-reference .kept .1 .1 .1 .1 .1 .1 .1 .1 .1 .0) (put-fine _ _ _ _ (c .enum-told2 .given .1) refl refl), c .before .before .before .before .check-reference .ensures .1, c .before .before .before .before .check-reference .ensures .2, c .before .before .before .before .check-reference .ensures .3)
+loop-again c = (referencing-next (c .before .before .before .before .before .before .before .before .before .before .before .before .before .before .loop .inv .0) (reference-is _ _ _ (c .before .before .before .before .before .before .before .before .before .before .reference .given .1) (c .before .before .before .before .before .before .before .before .before .before .before .before .reference-at .ensures)) _ (c .before .before .before .before .check-reference .ensures .0 .holds .means _) (c .before .before .before .before .check-reference .kept .1 .1 .1 .1 .1 .1 .1 .1 .0) (put-fine _ _ _ _ (c .enum-told2 .given .1) refl refl), c .before .before .before .before .check-reference .ensures .1, c .before .before .before .before .check-reference .ensures .2, c .before .before .before .before .check-reference .ensures .3)
 
 loop-less-2 : tie.Need-loop-less-2 Inv-loop μ-loop
-loop-less-2 c = falls (c .before .before .before .before .before .before .before .before .before .before .before .before .before .before .before .before .before .loop-test .taken) ((reference-is _ _ _ (c .before .before .before .before .before .before .before .before .before .before .before .before .before .before .reference .given .1) (c .before .before .before .before .before .before .before .before .before .before .before .before .before .before .before .before .reference-at .ensures)) .forward)
+loop-less-2 c = falls (c .before .before .before .before .before .before .before .before .before .before .before .before .before .before .before .before .before .before .loop-test .taken) ((reference-is _ _ _ (c .before .before .before .before .before .before .before .before .before .before .before .before .before .before .before .reference .given .1) (c .before .before .before .before .before .before .before .before .before .before .before .before .before .before .before .before .before .reference-at .ensures)) .forward)
 
 loop-again-2 : tie.Need-loop-again-2 Inv-loop μ-loop
-loop-again-2 c = let p = (checked-part (6 * c .before .before .before .before .before .before .before .before .before .before .before .before .before .before .before .before .before .before .before .before .before .before .before .before .before .args .layout .edges + 1) (c .before .before .before .before .before .before .before .before .before .check-reference .last .1 .1 .1 .1 .1 .1 .1 .1 .1 .0) (c .before .before .before .before .before .before .before .before .before .check-reference .ensures .0)) in
-    (referencing-next (c .before .before .before .before .before .before .before .before .before .before .before .before .before .before .before .before .before .before .loop .inv .0) (reference-is _ _ _ (c .before .before .before .before .before .before .before .before .before .before .before .before .before .before .reference .given .1) (c .before .before .before .before .before .before .before .before .before .before .before .before .before .before .before .before .reference-at .ensures)) _ (p .means _) (c .before .before .before .before .before .before .before .before .before .check-reference .kept .1 .1 .1 .1 .1 .1 .1 .1 .1 .0) (c .before .before .put-check .ensures), c .before .before .before .before .before .before .before .before .before .check-reference .ensures .1, c .before .before .before .before .before .before .before .before .before .check-reference .ensures .2, c .before .before .before .before .before .before .before .before .before .check-reference .ensures .3)
+loop-again-2 c = let p = (wanted-part (6 * c .before .before .before .before .before .before .before .before .before .before .before .before .before .before .before .before .before .before .before .before .before .before .before .before .before .before .args .layout .edges + 1) (c .before .before .before .before .before .before .before .before .before .check-reference .last .1 .1 .1 .1 .1 .1 .1 .1 .0) (c .before .before .before .before .before .before .before .before .before .check-reference .ensures .0)) in
+    (referencing-next (c .before .before .before .before .before .before .before .before .before .before .before .before .before .before .before .before .before .before .before .loop .inv .0) (reference-is _ _ _ (c .before .before .before .before .before .before .before .before .before .before .before .before .before .before .before .reference .given .1) (c .before .before .before .before .before .before .before .before .before .before .before .before .before .before .before .before .before .reference-at .ensures)) _ (p .holds .means _) (c .before .before .before .before .before .before .before .before .before .check-reference .kept .1 .1 .1 .1 .1 .1 .1 .1 .0) (meant-wrote p _ refl (c .before .before .put-check .ensures)), c .before .before .before .before .before .before .before .before .before .check-reference .ensures .1, c .before .before .before .before .before .before .before .before .before .check-reference .ensures .2, c .before .before .before .before .before .before .before .before .before .check-reference .ensures .3)
 
 same-length-3 : tie.Need-same-length-3 Inv-loop μ-loop
 same-length-3 c = c .before .loop .inv .0 .list-size ∙ length-set (c .before .before .before .before .before .before .before .before .args .work .now) 0 0
