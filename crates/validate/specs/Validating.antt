@@ -1,5 +1,5 @@
 -- What the validators write.
-use Prim.Native.Nat.{ℕ, _+_, _*_, _-_, _≤_}
+use Prim.Native.Nat.{ℕ, _+_, _*_, _-_, _≤_, _<_}
 use mathlib.Core.Bool.{Bool, true, false}
 use mathlib.Core.Option.{Option, some}
 use mathlib.Core.List.{List}
@@ -7,8 +7,9 @@ use mathlib.Core.Path.{_≡_}
 use lib.Dec.{ltb}
 use lib.ListN.{length, getD, take}
 use Rattle.names.specs.Documents.{bytes}
-use Rattle.meaning.specs.Limits.{edgeLimit}
+use Rattle.meaning.specs.Limits.{definitionLimit, edgeLimit}
 use Rattle.meaning.specs.Lists.{filterMap, flatMap, onlyIf}
+use Rattle.meaning.specs.Lookup.{definitionOf}
 use Rattle.meaning.specs.Report.{violationItems}
 use Rattle.meaning.specs.Tree.{Bundle}
 use Rattle.meaning.specs.Violations.{Violation, violation, checkEnumTagLayoutCycle, checkArraySizeLayoutCycle, validateType}
@@ -59,6 +60,11 @@ pub record Wrote (vs : List Violation) (out : List ℕ) (p : Position) (out′ :
 pub record Room (p : Position) (vs : List Violation) : Type 0 where
   pub far : p .at ≤ 3 + recordLimit * p .count
   pub few : p .count + length vs ≤ 65535
+
+-- the definition is one of the bundle's: its number, and that its name is defined
+pub record Among (s : List ℕ) (subject : Subject) : Type 0 where
+  pub number : subject .number < definitionLimit
+  pub defined : definitionOf (bundleOf s) (subject .name) < length (bundleOf s .definitions)
 
 -- the check of one reference: of an enum's tag, or of an array's size
 abbrev pub checkReference : Bool → Bundle → ℕ → ℕ → List ℕ → Option Violation

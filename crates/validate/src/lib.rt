@@ -22,7 +22,7 @@ ghost use Rattle.violation.specs.Records.{padded};
 ghost use Rattle.field_index.specs.Noted.{Noted};
 ghost use Rattle.containers.specs.Containers.{Known};
 ghost use Rattle.checks.specs.Checks.{violationOf, Fitting, Checked, EdgesPrepared};
-ghost use Rattle.validate.specs.Validating.{Recorded, Wrote, Room, recordWith, pathOfTwo, checkReference, foundIn};
+ghost use Rattle.validate.specs.Validating.{Among, Recorded, Wrote, Room, recordWith, pathOfTwo, checkReference, foundIn};
 
 // How far a report is written: the place behind it, and the count of its violations.
 pub struct Position {
@@ -191,7 +191,7 @@ pub fn validate_references(
     position: Position,
 ) -> Position
     requires { ⌜ EdgesPrepared (now s) layout (now edges) × (7 * layout .edges + 5 ≤ length (now work)) ⌝ }
-    requires { ⌜ LayoutOf (now s) layout (now places) × Acyclic (now s) × Kept (now s) false (now kept) × (subject .number < definitionLimit) × Noted (now s) (now places) (layout .definitions) ⌝ }
+    requires { ⌜ LayoutOf (now s) layout (now places) × Acyclic (now s) × Kept (now s) false (now kept) × Among (now s) subject × Noted (now s) (now places) (layout .definitions) ⌝ }
     requires { ⌜ (references .end ≤ length (now s)) × Fits (now s) (referencesFrom (now s) (references .at) (references .end)) × Room position (foundIn (now s) subject references) ⌝ }
     ensures { λ r. ⌜ Wrote (foundIn (now (s .entry)) subject references) (now (out .entry)) position (now (out .exit)) r × Kept (now (s .entry)) false (now (kept .exit)) ⌝ }
 {

@@ -8,13 +8,12 @@ use validate::Subject;
 ghost use mathlib.Core.Bool.{true, false};
 ghost use Prim.Native.Nat.{_+_, _*_, _≤_, _<_};
 ghost use lib.ListN.{length, getD};
-ghost use Rattle.meaning.specs.Limits.{definitionLimit};
 ghost use Rattle.bundle.specs.Opened.{LayoutOf};
 ghost use Rattle.sizes.specs.Tests.{Acyclic, Kept};
 ghost use Rattle.fields.specs.Shapes.{StructAt, EnumAt, ArrayAt};
 ghost use Rattle.checks.specs.Checks.{EdgesPrepared};
 ghost use Rattle.notes.specs.Notes.{Noted};
-ghost use Rattle.validate.specs.Validating.{Wrote, Room, violationsOf};
+ghost use Rattle.validate.specs.Validating.{Among, Wrote, Room, violationsOf};
 
 // Writes the violations of an enum: for each reference of its tag.
 pub fn validate_enum_tag_constraints(
@@ -29,7 +28,7 @@ pub fn validate_enum_tag_constraints(
     position: Position,
 ) -> Position
     requires { ⌜ EdgesPrepared (now s) layout (now edges) × (7 * layout .edges + 5 ≤ length (now work)) ⌝ }
-    requires { ⌜ LayoutOf (now s) layout (now places) × Acyclic (now s) × Kept (now s) false (now kept) × (subject .number < definitionLimit) × Noted (now s) (now places) (layout .definitions) ⌝ }
+    requires { ⌜ LayoutOf (now s) layout (now places) × Acyclic (now s) × Kept (now s) false (now kept) × Among (now s) subject × Noted (now s) (now places) (layout .definitions) ⌝ }
     requires { ⌜ EnumAt 24 (now s) (subject .at) × Room position (violationsOf (now s) subject) ⌝ }
     ensures { λ r. ⌜ Wrote (violationsOf (now (s .entry)) subject) (now (out .entry)) position (now (out .exit)) r × Kept (now (s .entry)) false (now (kept .exit)) ⌝ }
 {
@@ -73,7 +72,7 @@ pub fn validate_array_size_constraints(
     position: Position,
 ) -> Position
     requires { ⌜ EdgesPrepared (now s) layout (now edges) × (7 * layout .edges + 5 ≤ length (now work)) ⌝ }
-    requires { ⌜ LayoutOf (now s) layout (now places) × (subject .number < definitionLimit) × Noted (now s) (now places) (layout .definitions) ⌝ }
+    requires { ⌜ LayoutOf (now s) layout (now places) × Among (now s) subject × Noted (now s) (now places) (layout .definitions) ⌝ }
     requires { ⌜ ArrayAt 24 (now s) (subject .at) (getD (now s) (subject .at + 10) 0) × Room position (violationsOf (now s) subject) ⌝ }
     requires { ⌜ Acyclic (now s) × Kept (now s) false (now kept) × Kept (now s) true (now nested) ⌝ }
     ensures { λ r. ⌜ Wrote (violationsOf (now (s .entry)) subject) (now (out .entry)) position (now (out .exit)) r × Kept (now (s .entry)) false (now (kept .exit)) × Kept (now (s .entry)) true (now (nested .exit)) ⌝ }
@@ -131,7 +130,7 @@ pub fn validate_struct_field_constraints(
     out: &mut [u8],
     position: Position,
 ) -> Position
-    requires { ⌜ LayoutOf (now s) layout (now places) × (subject .number < definitionLimit) × Noted (now s) (now places) (layout .definitions) ⌝ }
+    requires { ⌜ LayoutOf (now s) layout (now places) × Among (now s) subject × Noted (now s) (now places) (layout .definitions) ⌝ }
     requires { ⌜ (3 ≤ length (now list)) × StructAt 24 (now s) (subject .at) count × Room position (violationsOf (now s) subject) ⌝ }
     ensures { λ r. ⌜ Wrote (violationsOf (now (s .entry)) subject) (now (out .entry)) position (now (out .exit)) r ⌝ }
 {

@@ -36,7 +36,7 @@ slice-write-work : tie.Need-slice-write-work Inv-loop μ-loop
 slice-write-work c = omega (arith, c .before .before .before .before .before .before .pre .0 .1)
 
 loop-holds : tie.Need-loop-holds Inv-loop μ-loop
-loop-holds c = (referencing-start _ _ _ _ _ _ _ (c .before .before .before .before .before .before .pre .1 .1 .1) (c .before .before .before .before .before .before .pre .1 .1 .2), c .before .before .before .before .before .before .pre .1 .0 .2, lent-anew (c .before .before .before .before .before .before .args .work .now) (c .before .before .before .before .before .before .pre .0 .1), known-start _ _)
+loop-holds c = (referencing-start _ _ _ _ _ _ _ (c .before .before .before .before .before .before .pre .1 .1 .1) (c .before .before .before .before .before .before .pre .1 .1 .2), c .before .before .before .before .before .before .pre .1 .0 .2, lent-anew (c .before .before .before .before .before .before .args .work .now) (c .before .before .before .before .before .before .pre .0 .1), known-start _ _ (c .before .before .before .before .before .before .pre .1 .0 .3 .defined))
 
 reference-at-requires : tie.Need-reference-at-requires Inv-loop μ-loop
 reference-at-requires c κs = (c .before .before .before .before .before .before .before .before .pre .1 .1 .0, c .before .before .before .before .before .before .before .before .pre .1 .0 .0 .small, c .before .loop .inv .0 .fits)
@@ -76,7 +76,7 @@ part-put-check-end c = omega (arith, c .before .before .before .before .before .
 
 put-check-requires : tie.Need-put-check-requires Inv-loop μ-loop
 put-check-requires c κs = let p = (wanted-part (6 * c .before .before .before .before .before .before .before .before .before .before .before .before .before .before .before .before .before .before .before .before .before .before .before .args .layout .edges + 1) (c .before .before .before .before .before .before .check-reference .last .1 .1 .1 .1 .1 .1 .1 .1 .0) (c .before .before .before .before .before .before .check-reference .ensures .0)) in
-    ((c .before .before .before .before .before .before .before .before .before .before .before .before .before .before .before .before .before .before .before .before .before .before .before .pre .1 .0 .3, meant-fits p), meant-room p _ (referencing-room (c .before .before .before .before .before .before .before .before .before .before .before .before .before .before .before .before .loop .inv .0) (reference-is _ _ _ (c .before .before .before .before .before .before .before .before .before .before .before .before .reference .given .1) (c .before .before .before .before .before .before .before .before .before .before .before .before .before .before .reference-at .ensures)) _ (p .holds .means _)))
+    ((c .before .before .before .before .before .before .before .before .before .before .before .before .before .before .before .before .before .before .before .before .before .before .before .pre .1 .0 .3 .number, meant-fits p), meant-room p _ (referencing-room (c .before .before .before .before .before .before .before .before .before .before .before .before .before .before .before .before .loop .inv .0) (reference-is _ _ _ (c .before .before .before .before .before .before .before .before .before .before .before .before .reference .given .1) (c .before .before .before .before .before .before .before .before .before .before .before .before .before .before .reference-at .ensures)) _ (p .holds .means _)))
 
 loop-less : tie.Need-loop-less Inv-loop μ-loop
 loop-less c = falls (c .before .before .before .before .before .before .before .before .before .before .before .before .before .loop-test .taken) ((reference-is _ _ _ (c .before .before .before .before .before .before .before .before .before .before .reference .given .1) (c .before .before .before .before .before .before .before .before .before .before .before .before .reference-at .ensures)) .forward)

@@ -43,7 +43,7 @@ enum-told : tie.Need-enum-told Inv-loop μ-loop
 enum-told c = search needs
 
 put-check-requires : tie.Need-put-check-requires Inv-loop μ-loop
-put-check-requires c κs = ((c .before .before .before .before .before .before .before .before .before .before .before .before .before .before .before .before .before .pre .0 .1, c .before .before .before .before .before .check-field-layout-dependency .ensures .0 0 .fits), fielding-room (c .before .before .before .before .before .before .before .before .before .before .loop .inv .0) (c .before .before .before .before .before .before .before .before .before .loop-test .taken) (c .before .before .before .before .before .before .before .before .field-at .ensures) _ (c .before .before .before .before .before .check-field-layout-dependency .ensures .0 (c .before .before .before .before .before .before .before .before .field-at .ensures .value) .means _))
+put-check-requires c κs = ((c .before .before .before .before .before .before .before .before .before .before .before .before .before .before .before .before .before .pre .0 .1 .number, c .before .before .before .before .before .check-field-layout-dependency .ensures .0 0 .fits), fielding-room (c .before .before .before .before .before .before .before .before .before .before .loop .inv .0) (c .before .before .before .before .before .before .before .before .before .loop-test .taken) (c .before .before .before .before .before .before .before .before .field-at .ensures) _ (c .before .before .before .before .before .check-field-layout-dependency .ensures .0 (c .before .before .before .before .before .before .before .before .field-at .ensures .value) .means _))
 
 sub-left : tie.Need-sub-left Inv-loop μ-loop
 sub-left c = search needs
