@@ -45,17 +45,11 @@ kept-both l k m =
       back = λ i b c. m .back i b (omega arith) ∙ k .back i b c;
     }
 
+pub layout-table : {s : List ℕ} {l : Layout} {t u : List ℕ} → LayoutOf s l t → Table s (l .definitions) u → LayoutOf s l u
+layout-table o t = record { small = o .small; read = o .read; table = t; edges = o .edges; few = o .few; current = o .current; from = o .from }
+
 pub layout-kept : {s : List ℕ} {l : Layout} {t u : List ℕ} {a : ℕ} → Kept t u a → LayoutOf s l t → LayoutOf s l u
-layout-kept k o =
-    record {
-      small = o .small;
-      read = o .read;
-      table = table-stays (o .table) (record { size = k .size; same = λ i c. k .front i (omega arith) });
-      edges = o .edges;
-      few = o .few;
-      current = o .current;
-      from = o .from;
-    }
+layout-kept k o = layout-table o (table-stays (o .table) (record { size = k .size; same = λ i c. k .front i (omega arith) }))
 
 -- the notes of the fields
 pub fields-start : {s places : List ℕ} {n used : ℕ} → NotedBelow s places n used → FieldsBelow s places n used

@@ -6,7 +6,7 @@ use checks::Reference;
 use fields::Definition;
 use fields::Shape;
 ghost use mathlib.Core.Path.{_≡_};
-ghost use Prim.Native.Nat.{_+_, _≤_, _<_};
+ghost use Prim.Native.Nat.{_+_, _*_, _≤_, _<_};
 ghost use lib.ListN.{length};
 ghost use Rattle.meaning.specs.Limits.{sizeLimit};
 ghost use Rattle.meaning.specs.ReadType.{readTy};
@@ -17,7 +17,7 @@ ghost use Rattle.bundle.specs.Opened.{LayoutOf};
 ghost use Rattle.table.specs.Table.{Within};
 ghost use Rattle.sizes.specs.Paths.{Fit};
 ghost use Rattle.sizes.specs.Scan.{referencesFrom, Fits};
-ghost use Rattle.field_index.specs.Noted.{Noted as Fields, NotedBelow, referencesOf};
+ghost use Rattle.field_index.specs.Noted.{partsAt, referencesOf, Noted as Fields, NotedBelow};
 ghost use Rattle.checks.specs.Checks.{targetAt, typePart};
 ghost use Rattle.notes.specs.Notes.{needsReferences, neededOf, indexFor, Entry, Lists, Noted};
 ghost use Rattle.notes.specs.Listing.{Room, FieldsBelow};
@@ -117,7 +117,7 @@ fn list_definition(s: &[u8], places: &mut [u16], layout: Layout, i: usize, used:
 }
 
 // Lists the references that each definition needs, behind the notes of the fields, which end at `used`.
-pub fn list_references(s: &[u8], places: &mut [u16], layout: Layout, used: usize)
+fn list_references(s: &[u8], places: &mut [u16], layout: Layout, used: usize)
     requires { ⌜ LayoutOf (now s) layout (now places) × NotedBelow (now s) (now places) (layout .definitions) used ⌝ }
     ensures { λ _. ⌜ LayoutOf (now (s .entry)) layout (now (places .exit)) × Noted (now (s .entry)) (now (places .exit)) (layout .definitions) ⌝ }
 {
@@ -129,4 +129,14 @@ pub fn list_references(s: &[u8], places: &mut [u16], layout: Layout, used: usize
         i += 1;
         places[LISTS_AT + i] = to as u16;
     }
+}
+
+// Notes the fields of every struct and the references that each definition needs. What stands behind the places of the definitions before
+// is free.
+pub fn note(s: &[u8], places: &mut [u16], layout: Layout)
+    requires { ⌜ LayoutOf (now s) layout (now places) × (2 * partsAt + 3 * length (now s) + 9 ≤ 2 * length (now places)) ⌝ }
+    ensures { λ _. ⌜ LayoutOf (now (s .entry)) layout (now (places .exit)) × Noted (now (s .entry)) (now (places .exit)) (layout .definitions) ⌝ }
+{
+    let used = field_index::note_structs(s, places, layout.definitions);
+    list_references(s, places, layout, used);
 }

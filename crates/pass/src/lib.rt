@@ -10,7 +10,7 @@ ghost use Rattle.meaning.specs.Violations.{violations};
 ghost use Rattle.bundle.specs.Definitions.{bundleOf};
 ghost use Rattle.bundle.specs.Opened.{LayoutOf};
 ghost use Rattle.sizes.specs.Tests.{Acyclic, Kept};
-ghost use Rattle.field_index.specs.Noted.{Noted};
+ghost use Rattle.notes.specs.Notes.{Noted};
 ghost use Rattle.checks.specs.Checks.{EdgesPrepared};
 ghost use Rattle.validate.specs.Validating.{Wrote, Room, violationsAt};
 

@@ -5,10 +5,10 @@ ghost use Rattle.meaning.specs.Calls.{Call};
 ghost use Rattle.meaning.specs.Due.{reporting};
 ghost use Rattle.bundle.specs.Opened.{answerMeant};
 
-// Places for the definitions and the fields of a short bundle, and of any.
-const SHORT_PLACES: usize = field_index::PARTS_AT + (5 * bundle::SHORT_BYTES + 2) / 3;
+// Places for the definitions, the fields and the references of a short bundle, and of any: three for every two bytes.
+const SHORT_PLACES: usize = field_index::PARTS_AT + (3 * bundle::SHORT_BYTES + 10) / 2;
 
-const PLACES: usize = field_index::PARTS_AT + (5 * bundle::BYTE_LIMIT + 2) / 3;
+const PLACES: usize = field_index::PARTS_AT + (3 * bundle::BYTE_LIMIT + 10) / 2;
 
 // Writes the report of a bundle of any length.
 fn report_long(bundle: &[u8], out: &mut [u8]) -> Answer
@@ -18,7 +18,7 @@ fn report_long(bundle: &[u8], out: &mut [u8]) -> Answer
     let opening = acceptance::open(bundle, &mut places);
     match opening {
         Opening::Opened(layout) => {
-            field_index::note_structs(bundle, &mut places, layout.definitions);
+            notes::note(bundle, &mut places, layout);
             report_opened::report_many(bundle, &places, layout, out)
         }
         Opening::Refused(k) => Answer::Refused(k),
@@ -41,7 +41,7 @@ pub fn report(bundle: &[u8], out: &mut [u8]) -> Answer
             if chain::FEW_EDGES < layout.edges {
                 return report_long(bundle, out);
             }
-            field_index::note_structs(bundle, &mut places, layout.definitions);
+            notes::note(bundle, &mut places, layout);
             report_opened::report_few(bundle, &places, layout, out)
         }
         Opening::Refused(k) => Answer::Refused(k),

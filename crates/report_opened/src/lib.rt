@@ -10,7 +10,7 @@ ghost use Rattle.meaning.specs.Circle.{circles};
 ghost use Rattle.meaning.specs.Report.{report};
 ghost use Rattle.bundle.specs.Definitions.{bundleOf};
 ghost use Rattle.bundle.specs.Opened.{LayoutOf, answerMeant};
-ghost use Rattle.field_index.specs.Noted.{Noted};
+ghost use Rattle.notes.specs.Notes.{Noted};
 
 // The report of an opened bundle, with slices that have room for its edges and a search. What they hold before is free.
 fn report_with(

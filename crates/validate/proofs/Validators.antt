@@ -4,8 +4,10 @@ use native.Mathlib.Omega.{arith}
 use mathlib.Core.Bool.{true, false}
 use mathlib.Core.Option.{Option}
 use mathlib.Core.Path.{_≡_, refl, sym, ap, ap₂, subst, _∙_}
-use mathlib.Core.List.{List, [], _++_}
-use lib.ListN.{length, drop, drop-of-length-le}
+use mathlib.Core.List.{List, [], _++_, map}
+use lib.ListN.{length, length-map, getD, drop, drop-of-length-le}
+use Rattle.names.specs.Names.{place}
+use Rattle.names.proofs.Place.{has-getD}
 use Rattle.meaning.specs.Lists.{flatMap, filterMap, enumerate, push}
 use Rattle.meaning.specs.Lookup.{listOf}
 use Rattle.meaning.specs.ReadExpr.{readExpr}
@@ -15,7 +17,7 @@ use Rattle.meaning.specs.Violations.{Violation, validateType, validateEnumTagCo
 use Rattle.bundle.specs.declared.Step.the-variants.{Next, Refused}
 use Rattle.bundle.specs.View.{stepOf, Reads}
 use Rattle.bundle.specs.Definitions.{typeAt, membersAt, bundleOf, definitionAt, Table}
-use Rattle.bundle.proofs.LookupLaws.{from-place, placed-at}
+use Rattle.bundle.proofs.LookupLaws.{from-place, placed-at, placed-name}
 use Rattle.bundle.proofs.Trees.{refused-no, ended-reads}
 use Rattle.sizes.specs.Scan.{pathsFrom}
 use Rattle.sizes.specs.Tests.{Kept}
@@ -29,7 +31,7 @@ use Rattle.fields.specs.Shapes.{StructAt, EnumAt, ArrayAt, isPlain, ShapeOf, Fi
 use Rattle.fields.proofs.Walking.{Passing, passing-next, passing-tree}
 use Rattle.validate.specs.declared.Position.{Position}
 use Rattle.validate.specs.declared.Subject.{Subject}
-use Rattle.validate.specs.Validating.{Wrote, Room, checkReference, violationsOf, violationsAt}
+use Rattle.validate.specs.Validating.{Among, Wrote, Room, checkReference, violationsOf, violationsAt}
 use Rattle.validate.proofs.Writing.{wrote-none, Going, going-start, going-room, going-next, going-end, push-append}
 
 -- an expression that was read is not refused
@@ -210,4 +212,16 @@ module _ {s places : List ℕ} {count : ℕ} (t : Table s count places) {list₀
       list-size = l ∙ c .list-size;
       keeps = k;
       nests = n;
+    }
+
+-- definition i is one of the bundle's
+pub placed-among : {s : List ℕ} {n : ℕ} {places : List ℕ} → Table s n places → {i : ℕ} → i < n → {p : Place} → PlacedAt s places i p
+    → Among s (record { number = i; name = p .name; at = p .at })
+placed-among {s} t {i} l {p} g =
+    let names = map (λ d. d .name) (bundleOf s .definitions) in
+    let long = length-map (bundleOf s .definitions) (λ d. d .name) in
+    let is : getD names i 0 ≡ p .name = placed-name (bundleOf s .definitions) i (placed-at t i l) ∙ sym (g .name) in
+    record {
+      number = omega (arith, t .count, t .placed .room);
+      defined = omega (arith, ap (place names) is, has-getD names i (omega (arith, long, t .count)), long);
     }

@@ -7,7 +7,7 @@ use Rattle.fields.specs.Shapes.{ArrayAt}
 use Rattle.fields.proofs.ShapeLaws.{shape-struct}
 use Rattle.fields.proofs.Walking.{placed-reads}
 use Rattle.search.proofs.Lists.{list-room, list-back}
-use Rattle.validate.proofs.Validators.{shape-enum, shape-array, placed-room, placed-wrote, placed-plain, placed-ref}
+use Rattle.validate.proofs.Validators.{shape-enum, shape-array, placed-among, placed-room, placed-wrote, placed-plain, placed-ref}
 
 place-of-requires : tie.Need-place-of-requires
 place-of-requires c κs = (c .before .before .before .before .before .pre .1 .0 .0 .table, c .before .before .before .before .before .pre .1 .0 .1)
@@ -38,20 +38,20 @@ part-validate-struct-field-constraints-end : tie.Need-part-validate-struct-field
 part-validate-struct-field-constraints-end c = omega (arith, (c .before .before .before .before .before .before .before .before .before .before .before .pre .0 .1))
 
 validate-struct-field-constraints-requires : tie.Need-validate-struct-field-constraints-requires
-validate-struct-field-constraints-requires c κs = ((c .before .before .before .before .before .before .before .before .before .before .before .before .before .pre .1 .0 .0, omega (arith, c .before .before .before .before .before .before .before .before .before .before .before .before .before .pre .1 .0 .1, c .before .before .before .before .before .before .before .before .before .before .before .before .before .pre .1 .0 .0 .table .placed .room, c .before .before .before .before .before .before .before .before .before .before .before .before .before .pre .1 .0 .0 .table .count), c .before .before .before .before .before .before .before .before .before .before .before .before .before .pre .1 .0 .3), (list-room (c .before .before .before .before .before .before .before .before .before .before .before .before .before .args .layout .edges) (c .before .before .before .before .before .before .before .before .before .before .before .before .before .args .work .now) (c .before .before .before .before .before .before .before .before .before .before .before .before .before .pre .0 .1), shape-struct _ _ _ (c .before .before .before .before .shape .given .1) (c .before .before .before .before .before .before .shape-at .ensures), placed-room _ _ _ (c .before .before .before .before .before .before .before .place-of .ensures) (c .before .before .before .before .before .before .before .before .before .before .before .before .before .pre .1 .0 .2)))
+validate-struct-field-constraints-requires c κs = ((c .before .before .before .before .before .before .before .before .before .before .before .before .before .pre .1 .0 .0, placed-among (c .before .before .before .before .before .before .before .before .before .before .before .before .before .pre .1 .0 .0 .table) (c .before .before .before .before .before .before .before .before .before .before .before .before .before .pre .1 .0 .1) (c .before .before .before .before .before .before .before .place-of .ensures), c .before .before .before .before .before .before .before .before .before .before .before .before .before .pre .1 .0 .3), (list-room (c .before .before .before .before .before .before .before .before .before .before .before .before .before .args .layout .edges) (c .before .before .before .before .before .before .before .before .before .before .before .before .before .args .work .now) (c .before .before .before .before .before .before .before .before .before .before .before .before .before .pre .0 .1), shape-struct _ _ _ (c .before .before .before .before .shape .given .1) (c .before .before .before .before .before .before .shape-at .ensures), placed-room _ _ _ (c .before .before .before .before .before .before .before .place-of .ensures) (c .before .before .before .before .before .before .before .before .before .before .before .before .before .pre .1 .0 .2)))
 
 enum-told : tie.Need-enum-told
 enum-told c = search needs
 
 validate-enum-tag-constraints-requires : tie.Need-validate-enum-tag-constraints-requires
-validate-enum-tag-constraints-requires c κs = (c .before .before .before .before .before .before .before .before .before .before .before .before .pre .0, ((c .before .before .before .before .before .before .before .before .before .before .before .before .pre .1 .0 .0, c .before .before .before .before .before .before .before .before .before .before .before .before .pre .1 .1 .0, c .before .before .before .before .before .before .before .before .before .before .before .before .pre .1 .1 .1, omega (arith, c .before .before .before .before .before .before .before .before .before .before .before .before .pre .1 .0 .1, c .before .before .before .before .before .before .before .before .before .before .before .before .pre .1 .0 .0 .table .placed .room, c .before .before .before .before .before .before .before .before .before .before .before .before .pre .1 .0 .0 .table .count), c .before .before .before .before .before .before .before .before .before .before .before .before .pre .1 .0 .3), (shape-enum _ _ (c .before .before .before .enum-told .given .1) (c .before .before .before .before .before .shape-at .ensures), placed-room _ _ _ (c .before .before .before .before .before .before .place-of .ensures) (c .before .before .before .before .before .before .before .before .before .before .before .before .pre .1 .0 .2))))
+validate-enum-tag-constraints-requires c κs = (c .before .before .before .before .before .before .before .before .before .before .before .before .pre .0, ((c .before .before .before .before .before .before .before .before .before .before .before .before .pre .1 .0 .0, c .before .before .before .before .before .before .before .before .before .before .before .before .pre .1 .1 .0, c .before .before .before .before .before .before .before .before .before .before .before .before .pre .1 .1 .1, placed-among (c .before .before .before .before .before .before .before .before .before .before .before .before .pre .1 .0 .0 .table) (c .before .before .before .before .before .before .before .before .before .before .before .before .pre .1 .0 .1) (c .before .before .before .before .before .before .place-of .ensures), c .before .before .before .before .before .before .before .before .before .before .before .before .pre .1 .0 .3), (shape-enum _ _ (c .before .before .before .enum-told .given .1) (c .before .before .before .before .before .shape-at .ensures), placed-room _ _ _ (c .before .before .before .before .before .before .place-of .ensures) (c .before .before .before .before .before .before .before .before .before .before .before .before .pre .1 .0 .2))))
 
 enum-told-2 : tie.Need-enum-told-2
 enum-told-2 c = search needs
 
 validate-array-size-constraints-requires : tie.Need-validate-array-size-constraints-requires
 validate-array-size-constraints-requires c κs = let g = shape-array _ _ (c .before .before .before .before .enum-told2 .given .1) (c .before .before .before .before .before .before .shape-at .ensures) in
-    (c .before .before .before .before .before .before .before .before .before .before .before .before .before .pre .0, ((c .before .before .before .before .before .before .before .before .before .before .before .before .before .pre .1 .0 .0, omega (arith, c .before .before .before .before .before .before .before .before .before .before .before .before .before .pre .1 .0 .1, c .before .before .before .before .before .before .before .before .before .before .before .before .before .pre .1 .0 .0 .table .placed .room, c .before .before .before .before .before .before .before .before .before .before .before .before .before .pre .1 .0 .0 .table .count), c .before .before .before .before .before .before .before .before .before .before .before .before .before .pre .1 .0 .3), ((subst (λ j. ArrayAt 24 (c .before .before .before .before .before .before .before .before .before .before .before .before .before .args .s .now) (c .before .before .before .before .before .before .before .place-of .result .at) j) (g .byte) g, placed-room _ _ _ (c .before .before .before .before .before .before .before .place-of .ensures) (c .before .before .before .before .before .before .before .before .before .before .before .before .before .pre .1 .0 .2)), c .before .before .before .before .before .before .before .before .before .before .before .before .before .pre .1 .1)))
+    (c .before .before .before .before .before .before .before .before .before .before .before .before .before .pre .0, ((c .before .before .before .before .before .before .before .before .before .before .before .before .before .pre .1 .0 .0, placed-among (c .before .before .before .before .before .before .before .before .before .before .before .before .before .pre .1 .0 .0 .table) (c .before .before .before .before .before .before .before .before .before .before .before .before .before .pre .1 .0 .1) (c .before .before .before .before .before .before .before .place-of .ensures), c .before .before .before .before .before .before .before .before .before .before .before .before .before .pre .1 .0 .3), ((subst (λ j. ArrayAt 24 (c .before .before .before .before .before .before .before .before .before .before .before .before .before .args .s .now) (c .before .before .before .before .before .before .before .place-of .result .at) j) (g .byte) g, placed-room _ _ _ (c .before .before .before .before .before .before .before .place-of .ensures) (c .before .before .before .before .before .before .before .before .before .before .before .before .before .pre .1 .0 .2)), c .before .before .before .before .before .before .before .before .before .before .before .before .before .pre .1 .1)))
 
 enum-told-3 : tie.Need-enum-told-3
 enum-told-3 c = search needs

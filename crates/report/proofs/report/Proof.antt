@@ -6,7 +6,6 @@ use lib.ListN.{length-replicate}
 use Rattle.meaning.specs.Due.{reporting}
 use Rattle.bundle.proofs.AnswerLaws.{opened-layout, opened-refused}
 use Rattle.chain.proofs.Called.{turned-down}
-use Rattle.report.proofs.Noted.{layout-noted}
 use Rattle.draft.proofs.Reporting.{called}
 use Rattle.report.proofs.report.Statement.{statement}
 use Rattle.report.proofs.report.Tie as tie
@@ -24,7 +23,7 @@ slice-aggregate-open : tie.Need-slice-aggregate-open
 slice-aggregate-open c = search needs
 
 open-requires : tie.Need-open-requires
-open-requires c κs = omega (arith, length-replicate {A = ℕ} 4013 0)
+open-requires c κs = omega (arith, length-replicate {A = ℕ} 4104 0)
 
 enum-known-opening : tie.Need-enum-known-opening
 enum-known-opening c = search needs
@@ -38,19 +37,19 @@ same-length-2 c = search needs
 returns-2 : tie.Need-returns-2
 returns-2 c = search needs
 
-slice-aggregate-note-structs : tie.Need-slice-aggregate-note-structs
-slice-aggregate-note-structs c = search needs
+slice-aggregate-note : tie.Need-slice-aggregate-note
+slice-aggregate-note c = search needs
 
-note-structs-requires : tie.Need-note-structs-requires
-note-structs-requires c κs = let o = opened-layout _ _ _ _ (c .before .before .before .before .before .before .before .«open» .ensures) (c .before .before .before .before .opening .given .1) in
-    ((o .0 .table, o .0 .small), omega (arith, length-replicate {A = ℕ} 4013 0, c .before .before .before .before .before .before .before .«open» .kept .1 .0))
+note-requires : tie.Need-note-requires
+note-requires c κs = let o = opened-layout _ _ _ _ (c .before .before .before .before .before .before .before .«open» .ensures) (c .before .before .before .before .opening .given .1) in
+    (o .0, omega (arith, length-replicate {A = ℕ} 4104 0, c .before .before .before .before .before .before .before .«open» .kept .1 .0))
 
 slice-aggregate-report-few : tie.Need-slice-aggregate-report-few
 slice-aggregate-report-few c = search needs
 
 report-few-requires : tie.Need-report-few-requires
-report-few-requires c κs = let o = opened-layout _ _ _ _ (c .before .before .before .before .before .before .before .before .before .before .before .«open» .ensures) (c .before .before .before .before .before .before .before .before .opening .given .1) in let n = c .before .before .before .note-structs .ensures in
-    (omega (arith, c .before .before .before .before .before .if2 .left), (layout-noted (o .0) (n .0), o .1, n .1))
+report-few-requires c κs = let o = opened-layout _ _ _ _ (c .before .before .before .before .before .before .before .before .before .before .before .«open» .ensures) (c .before .before .before .before .before .before .before .before .opening .given .1) in let n = c .before .before .before .note .ensures in
+    (omega (arith, c .before .before .before .before .before .if2 .left), (n .0, o .1, n .1))
 
 enum-known-opening-2 : tie.Need-enum-known-opening-2
 enum-known-opening-2 c = search needs
@@ -79,8 +78,8 @@ report-spec =
     report-long-requires-2
     same-length-2
     returns-2
-    slice-aggregate-note-structs
-    note-structs-requires
+    slice-aggregate-note
+    note-requires
     slice-aggregate-report-few
     report-few-requires
     enum-known-opening-2

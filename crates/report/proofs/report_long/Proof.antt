@@ -6,7 +6,6 @@ use lib.ListN.{length-replicate}
 use Rattle.meaning.specs.Due.{reporting}
 use Rattle.bundle.proofs.AnswerLaws.{opened-layout, opened-refused}
 use Rattle.chain.proofs.Called.{turned-down}
-use Rattle.report.proofs.Noted.{layout-noted}
 use Rattle.draft.proofs.Reporting.{called}
 use Rattle.report.proofs.report_long.Statement.{statement}
 use Rattle.report.proofs.report_long.Tie as tie
@@ -15,24 +14,24 @@ slice-aggregate-open : tie.Need-slice-aggregate-open
 slice-aggregate-open c = search needs
 
 open-requires : tie.Need-open-requires
-open-requires c κs = omega (arith, length-replicate {A = ℕ} 56920 0)
+open-requires c κs = omega (arith, length-replicate {A = ℕ} 51720 0)
 
 enum-known-opening : tie.Need-enum-known-opening
 enum-known-opening c = search needs
 
-slice-aggregate-note-structs : tie.Need-slice-aggregate-note-structs
-slice-aggregate-note-structs c = search needs
+slice-aggregate-note : tie.Need-slice-aggregate-note
+slice-aggregate-note c = search needs
 
-note-structs-requires : tie.Need-note-structs-requires
-note-structs-requires c κs = let o = opened-layout _ _ _ _ (c .before .before .before .before .before .«open» .ensures) (c .before .before .opening .given .1) in
-    ((o .0 .table, o .0 .small), omega (arith, o .0 .small, length-replicate {A = ℕ} 56920 0, c .before .before .before .before .before .«open» .kept .1 .0))
+note-requires : tie.Need-note-requires
+note-requires c κs = let o = opened-layout _ _ _ _ (c .before .before .before .before .before .«open» .ensures) (c .before .before .opening .given .1) in
+    (o .0, omega (arith, o .0 .small, length-replicate {A = ℕ} 51720 0, c .before .before .before .before .before .«open» .kept .1 .0))
 
 slice-aggregate-report-many : tie.Need-slice-aggregate-report-many
 slice-aggregate-report-many c = search needs
 
 report-many-requires : tie.Need-report-many-requires
-report-many-requires c κs = let o = opened-layout _ _ _ _ (c .before .before .before .before .before .before .before .before .before .«open» .ensures) (c .before .before .before .before .before .before .opening .given .1) in let n = c .before .before .before .note-structs .ensures in
-    (layout-noted (o .0) (n .0), o .1, n .1)
+report-many-requires c κs = let o = opened-layout _ _ _ _ (c .before .before .before .before .before .before .before .before .before .«open» .ensures) (c .before .before .before .before .before .before .opening .given .1) in let n = c .before .before .before .note .ensures in
+    (n .0, o .1, n .1)
 
 enum-known-opening-2 : tie.Need-enum-known-opening-2
 enum-known-opening-2 c = search needs
@@ -55,8 +54,8 @@ report-long-spec =
     slice-aggregate-open
     open-requires
     enum-known-opening
-    slice-aggregate-note-structs
-    note-structs-requires
+    slice-aggregate-note
+    note-requires
     slice-aggregate-report-many
     report-many-requires
     enum-known-opening-2
