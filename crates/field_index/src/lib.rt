@@ -58,12 +58,11 @@ fn note_fields(s: &[u8], count: usize, at: usize, n: usize, notes: &mut [u16], a
 {
     notes[a] = n as u16;
     table::empty(notes, a + 2 + 2 * n, n);
-    let form = bundle::form_of(0x50);
     let mut next = at;
     let mut d = 0;
     let mut k = 0;
     while k < n {
-        let field = fields::field_at(s, next, bundle::DEPTH_INSIDE, form);
+        let field = fields::field_at(s, next, bundle::DEPTH_INSIDE);
         d = note_name(notes, a, n, d, k, field.name);
         let lead = lead_at(s, notes, count, field.at);
         notes[a + 2 + 5 * n + k] = lead as u16;

@@ -9,7 +9,7 @@ use mathlib.Core.Path.{_≡_, refl, sym, ap, subst, _∙_}
 use mathlib.Core.List.{List, [], _∷_}
 use lib.ListN.{length, getD}
 use borrow.Author.Tests.{eq-eqb}
-use Rattle.meaning.specs.Kinds.{Form, OfType, Primitive, TypeRef, Struct, Union, Enum, Array, SizeUnion}
+use Rattle.meaning.specs.Kinds.{Form, OfType, OfMember, formOf, lookup, Primitive, TypeRef, Struct, Union, Enum, Array, SizeUnion}
 use Rattle.meaning.specs.Tree.{Ty, primitive, typeRef, struct, union, enum, array, sizeUnion, member}
 use Rattle.meaning.specs.Lookup.{asTypeRef, asStruct}
 use Rattle.meaning.specs.Reader.{Read, ok, refused, due, little}
@@ -22,10 +22,10 @@ use Rattle.bundle.specs.View.{stepOf, countOf, Reads, valueOr}
 use Rattle.bundle.specs.Definitions.{typeAt, membersAt, zeroGroup}
 use Rattle.bundle.specs.Expressions.{exprAt}
 use Rattle.bundle.proofs.ExprLaws.{Opened}
-use Rattle.bundle.proofs.Trees.{ended-reads, refused-no, first-read}
-use Rattle.bundle.proofs.TypeLaws.{member-type}
+use Rattle.bundle.proofs.Trees.{ended, ended-reads, refused-no, first-read}
+use Rattle.bundle.proofs.TypeLaws.{primitive-ends, typeRef-ends, member-type}
 use Rattle.bundle.proofs.TypeTrees.{primitive-tree, typeRef-reads, typeRef-tree, union-tree, sizeUnion-tree, member-reads, member-value}
-use Rattle.bundle.proofs.Heads.{member-where}
+use Rattle.bundle.proofs.Heads.{body-where, member-where}
 use Rattle.bundle.proofs.Parts.{struct-parts, enum-at, array-at}
 use Rattle.fields.specs.declared.Shape.{Shape}
 use Rattle.fields.specs.declared.Shape.the-variants as shape
@@ -100,30 +100,51 @@ member-name k at i s e =
     let q : at + 1 + (2 + m .width) ≤ length s = omega (arith, m .ends, m .bound) in
     rw (due-ok 1 at s p, eq-eqb (getD s at 0) k (m .kind), m .form, due-ok (2 + m .width) (at + 1) s q)
 
+-- where a type ends, by its form
+module _ {d at : ℕ} {s : List ℕ} {f : Form} (o : Opened d at s f) (r : Reads (readTy d s at)) where
+  pub primitive-end : f ≡ OfType Primitive → Next (at + 1) ≡ stepOf (readTy d s at)
+  primitive-end p = sym (primitive-ends o p)
+
+  pub typeRef-end : f ≡ OfType TypeRef → (Next (at + 3) ≡ stepOf (readTy d s at)) × (at + 3 ≤ length s)
+  typeRef-end p =
+      let e = ended (readTy d s at) r in
+      let b = body-where 2 (at + 1) (e .0) s (e .1 ∙ typeRef-ends o p) in
+      let q : e .0 ≡ at + 3 = omega (arith, b .0) in
+      (ap Next (sym q) ∙ e .1, omega (arith, b .1))
+
+pub type-no : (d at k : ℕ) (s : List ℕ) → Reads (readTy d s at) → Refused k ≡ stepOf (readTy d s at) → ⊥
+type-no d at k s r g = refused-no (readTy d s at) k r (sym g)
+
 -- a field
 module _ (d at : ℕ) (s : List ℕ) (r : Reads (readMember (readTy d) 0x50 s at)) where
-  pub head-no : (k : ℕ) → Refused k ≡ stepOf (memberHead 0x50 s at) → ⊥
-  unfolding readMember
-  head-no k e = refused-no (memberHead 0x50 s at) k (first-read s _ (memberHead 0x50 s at) r) (sym e)
+  own : (Next (at + 3) ≡ stepOf (memberHead 0x50 s at)) × (at + 3 ≤ length s)
+  unfolding readMember lookup
+  own =
+      let h = ended (memberHead 0x50 s at) (first-read s _ (memberHead 0x50 s at) r) in
+      let m = member-where 0x50 at (h .0) s (h .1) in
+      let w : m .width ≡ 0 = width (m .width) (sym (m .form) ∙ ap formOf (m .kind)) in
+      let q : h .0 ≡ at + 3 = omega (arith, m .ends, w) in
+      (ap Next (sym q) ∙ h .1, omega (arith, m .bound, q))
+    where
+      width : (w : ℕ) → OfMember w ≡ formOf 0x50 → w ≡ 0
+      width w e = cc
 
-  -- whose own record ended at i
-  module _ (i : ℕ) (e : Next i ≡ stepOf (memberHead 0x50 s at)) where
-    pub field-there : at + 3 ≤ length s
-    field-there = let m = member-where 0x50 at i s e in omega (arith, m .ends, m .bound)
+  pub field-there : at + 3 ≤ length s
+  field-there = own .1
 
-    pub type-no : (k : ℕ) → Refused k ≡ stepOf (readTy d s i) → ⊥
-    type-no k g = refused-no (readTy d s i) k (member-reads (readTy d) 0x50 s at i e r) (sym g)
+  pub field-reads : Reads (readTy d s (at + 3))
+  field-reads = member-reads (readTy d) 0x50 s at (at + 3) (own .0) r
 
-    -- and whose type ended at j
-    pub field-is : (j x : ℕ) → Next j ≡ stepOf (readTy d s i) → x ≡ little s (at + 1) 2 → FieldAt d s at (record { name = x; at = i; next = j })
-    field-is j x g n = record {
-      reads = member-reads (readTy d) 0x50 s at i e r;
-      ends = g ∙ sym (member-type (readExpr 0) (readTy d) s at 0x50 i e);
-      value = (valueOr (0, 0) (memberHead 0x50 s at)) .1;
-      is = λ z.
-          member-value (readTy d) 0x50 s at i e r z (primitive 0)
-          ∙ ap (λ x. member x ((valueOr (0, 0) (memberHead 0x50 s at)) .1) (typeAt d s i)) (member-name 0x50 at i s e ∙ sym n);
-    }
+  -- whose type ended at j
+  pub field-is : (j x : ℕ) → Next j ≡ stepOf (readTy d s (at + 3)) → x ≡ little s (at + 1) 2 → FieldAt d s at (record { name = x; at = at + 3; next = j })
+  field-is j x g n = record {
+    reads = field-reads;
+    ends = g ∙ sym (member-type (readExpr 0) (readTy d) s at 0x50 (at + 3) (own .0));
+    value = (valueOr (0, 0) (memberHead 0x50 s at)) .1;
+    is = λ z.
+        member-value (readTy d) 0x50 s at (at + 3) (own .0) r z (primitive 0)
+        ∙ ap (λ x. member x ((valueOr (0, 0) (memberHead 0x50 s at)) .1) (typeAt d s (at + 3))) (member-name 0x50 at (at + 3) s (own .0) ∙ sym n);
+  }
 
 -- the name that a type refers to, by its shape
 plain-ref : (t : Ty) → isPlain t ≡ true → asTypeRef t ≡ none

@@ -6,13 +6,12 @@ use bundle::TypeForm;
 ghost use mathlib.Core.Path.{_≡_};
 ghost use Prim.Native.Nat.{_<_};
 ghost use lib.ListN.{getD};
-ghost use Rattle.meaning.specs.Kinds.{formOf};
 ghost use Rattle.meaning.specs.Lists.{holds};
 ghost use Rattle.meaning.specs.Lookup.{findType};
 ghost use Rattle.meaning.specs.ReadType.{readTy, readMember};
 ghost use Rattle.meaning.specs.Sizes.{isEnumWithConstantSizeVariants};
 ghost use Rattle.bundle.specs.declared.Step.the-variants.{Next};
-ghost use Rattle.bundle.specs.View.{formMeant, Reads, stepOf};
+ghost use Rattle.bundle.specs.View.{Reads, stepOf};
 ghost use Rattle.bundle.specs.Definitions.{bundleOf, Table};
 ghost use Rattle.fields.specs.Shapes.{ShapeOf, FieldAt, PlacedAt, Defines};
 
@@ -65,32 +64,45 @@ pub fn shape_at(s: &[u8], at: usize, depth: usize) -> Shape
     }
 }
 
-// The field that was read at `at`, where `form` is a field's.
-pub fn field_at(s: &[u8], at: usize, depth: usize, form: Form) -> Field
-    requires { ⌜ formMeant form ≡ formOf 0x50 ⌝ }
+// Where the type that was read at `at` ends, by reading it again.
+fn read_again(s: &[u8], at: usize, depth: usize) -> usize
+    requires { ⌜ Reads (readTy depth (now s) at) ⌝ }
+    ensures { λ r. ⌜ Next r ≡ stepOf (readTy depth (now (s .entry)) at) ⌝ }
+{
+    let step = bundle::type_at(s, at, depth);
+    match step {
+        Step::Next(next) => next,
+        Step::Refused(_) => at,
+    }
+}
+
+// Where the type that was read at `at` ends: a primitive or a TypeRef, as most fields are, behind its own record.
+fn type_end(s: &[u8], at: usize, depth: usize) -> usize
+    requires { ⌜ Reads (readTy depth (now s) at) ⌝ }
+    ensures { λ r. ⌜ Next r ≡ stepOf (readTy depth (now (s .entry)) at) ⌝ }
+{
+    let kind = s[at];
+    let form = bundle::form_of(kind);
+    let Form::OfType(t) = form else {
+        return at;
+    };
+    match t {
+        TypeForm::Primitive => at + 1,
+        TypeForm::TypeRef => at + 3,
+        _ => read_again(s, at, depth),
+    }
+}
+
+// The field that was read at `at`.
+pub fn field_at(s: &[u8], at: usize, depth: usize) -> Field
     requires { ⌜ Reads (readMember (readTy depth) 0x50 (now s) at) ⌝ }
     ensures { λ r. ⌜ FieldAt depth (now (s .entry)) at r ⌝ }
 {
-    let head = bundle::member_head_at(s, at, 0x50, form);
-    let Step::Next(body) = head else {
-        return Field {
-            name: 0,
-            at: at,
-            next: at,
-        };
-    };
-    let step = bundle::type_at(s, body, depth);
-    let Step::Next(next) = step else {
-        return Field {
-            name: 0,
-            at: at,
-            next: at,
-        };
-    };
+    let body = at + 3;
     Field {
         name: bundle::u16_at(s, at + 1),
         at: body,
-        next: next,
+        next: type_end(s, body, depth),
     }
 }
 

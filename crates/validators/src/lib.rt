@@ -136,13 +136,12 @@ pub fn validate_struct_field_constraints(
 {
     let i = subject.number;
     let name = subject.name;
-    let form = bundle::form_of(0x50);
     let mut seen = [0u16; bundle::DEFINITIONS];
     let mut next = subject.at + 12;
     let mut left = count;
     let mut reached = position;
     while 0 < left {
-        let field = fields::field_at(s, next, bundle::DEPTH_INSIDE, form);
+        let field = fields::field_at(s, next, bundle::DEPTH_INSIDE);
         let check = forward::check_field_layout_dependency(
             s,
             places,
