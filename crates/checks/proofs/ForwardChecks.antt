@@ -76,7 +76,6 @@ reference-no s at end e g = subst (Referred s at end) e g
 pub referred : {s : List ℕ} {end at p n : ℕ} → Split s end at p → Fits s (referencesFrom s at end) → n ≡ length (pathAt s p) → ReferenceIs s at end p (p + 1 + 2 * n)
 referred {s} {end} {at} {p} {n} g f e = record {
   rest = subst (λ k. referencesFrom s at end ≡ p ∷ referencesFrom s (p + 1 + 2 * k) end) (sym e) (g .rest);
-  here = g .here;
   forward = omega (arith, g .from);
   fit = split-fit s end p g f;
   fits = subst (λ k. Fits s (referencesFrom s (p + 1 + 2 * k) end)) (sym e) (split-fits s end p g f);

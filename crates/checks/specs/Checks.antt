@@ -79,10 +79,9 @@ pub record GraphOf (s : List ℕ) (l : Layout) : Type 0 where
 abbrev pub EdgesPrepared : List ℕ → Layout → List ℕ → Type 0
 EdgesPrepared s l edges = Prepared (graphAt s (l .«edges_at») (l .edges)) (l .edges) edges
 
--- the first reference from `at` to `end` is at p, it is also the first from p on, and those behind it start at `after`
+-- the first reference from `at` to `end` is at p, and those behind it start at `after`
 pub record ReferenceIs (s : List ℕ) (at end p after : ℕ) : Type 0 where
   pub rest : referencesFrom s at end ≡ p ∷ referencesFrom s after end
-  pub here : referencesFrom s p end ≡ referencesFrom s at end
   pub forward : at < after
   pub fit : Fit s p
   pub fits : Fits s (referencesFrom s after end)

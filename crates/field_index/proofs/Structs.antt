@@ -27,7 +27,7 @@ use Rattle.fields.proofs.Shape.{the-type}
 use Rattle.fields.proofs.ShapeLaws.{shape-other}
 use Rattle.fields.specs.Shapes.{StructAt, ShapeOf}
 use Rattle.table.specs.Table.{Within}
-use Rattle.field_index.specs.Noted.{startsAt, partsAt, partOf, Part, NotedFor, leadsOf, LeadsTo, fieldsOf, fieldsAt, referencesOf, referencesTo, endOf, Noted, NotedBelow, Behind}
+use Rattle.field_index.specs.Noted.{startsAt, partsAt, partOf, Part, NotedFor, leadsOf, LeadsTo, fieldsOf, fieldsAt, referencesOf, referencesTo, endOf, NotedBelow, Behind}
 use Rattle.field_index.proofs.Noting.{members-same}
 use Rattle.field_index.proofs.Walking.{fields, for-same, leads-same}
 use Rattle.field_index.proofs.Widths.{place-next, struct-wide}

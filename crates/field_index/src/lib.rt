@@ -2,18 +2,16 @@
 // Behind those places stands for each definition where its part starts, and 0 where it is no struct or has no field. A part has the count
 // of fields and the count of their names, then for each name the index of the first field that has it, then for each the index of the
 // last, then a table of the names with as many buckets as there are fields, then for each field where its type leads.
-use fields::Definition;
 use fields::Shape;
 ghost use mathlib.Core.Path.{_≡_};
 ghost use mathlib.Core.Bool.{cond};
-ghost use mathlib.Core.List.{List, [], _∷_};
+ghost use mathlib.Core.List.{List};
 ghost use Prim.Native.Nat.{ℕ, _+_, _*_, _≤_, _<_};
 ghost use lib.ListN.{length, getD};
-ghost use Rattle.meaning.specs.Lists.{lastIndex, holds};
+ghost use Rattle.meaning.specs.Lists.{lastIndex};
 ghost use Rattle.meaning.specs.Lookup.{listOf, asTypeRef};
 ghost use Rattle.meaning.specs.Tree.{Member};
 ghost use Rattle.meaning.specs.ReadType.{readTy, readMembers};
-ghost use Rattle.meaning.specs.Violations.{structOf, standsAfter};
 ghost use Rattle.bundle.specs.View.{Reads};
 ghost use Rattle.bundle.specs.Definitions.{typeAt, membersAt, bundleOf, Table};
 ghost use Rattle.fields.specs.Sought.{lastShown};
@@ -170,27 +168,4 @@ pub fn last_lead(s: &[u8], places: &[u16], count: usize, i: usize, lead: usize) 
     }
     let n = places[a] as usize;
     last_in(places, a + 2 + 5 * n, n, lead)
-}
-
-// Whether in the first definition of the name `container`, if that is a struct the first field that is called `field` stands after the index `j`.
-pub fn stands_after(
-    s: &[u8],
-    places: &[u16],
-    count: usize,
-    container: u16,
-    field: u16,
-    j: usize,
-) -> bool
-    requires { ⌜ Table (now s) count (now places) × Noted (now s) (now places) count ⌝ }
-    ensures { λ r. ⌜ r ≡ holds (standsAfter j (field ∷ [])) (structOf (bundleOf (now (s .entry))) container) ⌝ }
-{
-    let found = fields::find_definition(s, places, count, container);
-    let Definition::At(i, _) = found else {
-        return false;
-    };
-    let first = index_of(places, i, false, field);
-    if first == 0 {
-        return false;
-    }
-    j < first - 1
 }

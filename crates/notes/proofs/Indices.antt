@@ -80,7 +80,3 @@ index-small {s} {places} o {i} c l f =
     (λ (h : ¬ (0 < getD places (startsAt + i) 0)).
     let no : fieldsAt s places i ≡ [] = o .each i c .none (omega arith) in
     rw no (omega arith))
-
--- the place of a definition among those noted
-pub noted-there : {s places : List ℕ} {n i : ℕ} → Table s n places → Noted s places n → i < n → startsAt + i < length places
-noted-there t o l = omega (arith, o .size, t .count, t .placed .room)

@@ -4,7 +4,8 @@ use lib.ListN.{getD}
 use Prim.Native.Nat.{ℕ, _<_}
 use Rattle.checks.proofs.ChainChecks.{part-is, part-other}
 use Rattle.fields.proofs.Lookups.{definition-at, definition-no}
-use Rattle.notes.proofs.Indices.{index-other, index-nowhere, index-found, index-small, noted-there}
+use Rattle.notes.proofs.Indices.{index-other, index-nowhere, index-found, index-small}
+use Rattle.field_index.proofs.Order.{noted-there}
 use borrow.Author.Needs.{needs}
 use Rattle.notes.proofs.index_for.Statement.{statement}
 use Rattle.notes.proofs.index_for.Tie as tie
