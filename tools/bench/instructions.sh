@@ -23,7 +23,7 @@ counted() { # PATTERN
     END { print sum + 0 }'
 }
 
-printf '%-38s%8s  %-9s%14s%10s%12s\n' case bytes call instructions 'a byte' cleared
+printf '%-46s%8s  %-9s%14s%10s%12s\n' case bytes call instructions 'a byte' cleared
 for file in "$@"; do
   bytes=$(wc -c < "$file")
   for call in report accept renumber chain; do
@@ -32,7 +32,7 @@ for file in "$@"; do
     all=$(sed -n 's/.*Collected : *//p' "$target/said")
     cleared=$(counted memset)
     own=$((all - cleared))
-    printf '%-38s%8s  %-9s%14s%10s%12s\n' "$(basename "$file")" "$bytes" "$call" "$own" \
+    printf '%-46s%8s  %-9s%14s%10s%12s\n' "$(basename "$file")" "$bytes" "$call" "$own" \
       "$(awk "BEGIN { printf \"%.1f\", $own / $bytes }")" "$cleared"
   done
 done

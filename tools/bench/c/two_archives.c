@@ -130,14 +130,14 @@ int main(int count, char **words) {
   static const int order[] = {REPORT, ACCEPT, RENUMBER, CHAIN};
   uint8_t *copy = malloc(REPORT_ROOM);
   int all_same = 1, word, number;
-  printf("%-38s", "case");
+  printf("%-46s", "case");
   for (number = 0; number < 4; number++) {
     printf("%12s%12s%8s", call_names[order[number]], "newer", "ratio");
   }
   printf("\n");
   for (word = 1; word < count; word++) {
     struct bundle bundle = bundle_of_file(words[word]);
-    printf("%-38s", last_part(words[word]));
+    printf("%-46s", last_part(words[word]));
     for (number = 0; number < 4; number++) {
       double older, newer;
       in_turn(order[number], &bundle, &older, &newer);

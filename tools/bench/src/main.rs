@@ -72,6 +72,38 @@ const SHAPES: [Row; 24] = [
     ("enums of one name, one long tag", shapes::one_long_tag),
 ];
 
+/// The bundles that a request named, each with the bytes that it gave.
+const REQUEST: [(&str, fn() -> Bundle, usize); 5] = [
+    (
+        "request 1: 2,700 fields x 2,700 references",
+        shapes::request_missing,
+        32_436,
+    ),
+    (
+        "request 2: the same with an enum",
+        shapes::request_enum,
+        32_460,
+    ),
+    (
+        "request 3: 600 fields x 600 references",
+        shapes::request_some_missing,
+        7_236,
+    ),
+    (
+        "request 4: 3,000 references x 3,500 fields",
+        shapes::request_tag,
+        32_062,
+    ),
+    (
+        "request 5: 1,200 fields to one record",
+        shapes::request_plausible,
+        6_437,
+    ),
+];
+
+/// The width of the first column: the longest name of a case and some room.
+const NAME_WIDTH: usize = 44;
+
 const USAGE: &str = "usage:
   bench [--quick]            times of the library and the original
   bench compare SEED COUNT   the library's answers against the oracle's
@@ -122,6 +154,11 @@ fn cases() -> Vec<(&'static str, Bundle)> {
     ];
     for (name, worst) in WORST.into_iter().chain(SHAPES) {
         list.push((name, worst(BYTE_LIMIT)));
+    }
+    for (name, requested, bytes) in REQUEST {
+        let bundle = requested();
+        assert_eq!(inputs::size(&bundle), bytes, "{name}");
+        list.push((name, bundle));
     }
     list
 }
@@ -220,11 +257,11 @@ fn print_reports(quick: bool) -> bool {
         "with bytes",
         "ratio",
     ];
-    println!("{:<36}{}", "case", row(&heads.map(str::to_string)));
+    println!("{:<NAME_WIDTH$}{}", "case", row(&heads.map(str::to_string)));
     let mut all_same = true;
     for (number, (name, bundle)) in cases().into_iter().enumerate() {
         let (cells, same) = report_cells(number, &bundle, quick);
-        println!("{name:<36}{}", row(&cells));
+        println!("{name:<NAME_WIDTH$}{}", row(&cells));
         all_same &= same;
     }
     println!();
@@ -272,7 +309,7 @@ fn print_growth() {
         .map(|part| format!("{} bytes", BYTE_LIMIT / part))
         .collect();
     heads.extend(["time".to_string(), "report".to_string()]);
-    println!("{:<36}{}", "case", row(&heads));
+    println!("{:<NAME_WIDTH$}{}", "case", row(&heads));
     for (name, worst) in WORST.into_iter().chain(SHAPES) {
         let bundles = parts.map(|part| encode(&worst(BYTE_LIMIT / part)));
         let times = bundles.each_ref().map(|bytes| library_time(bytes));
@@ -280,7 +317,7 @@ fn print_growth() {
         let mut cells: Vec<String> = times.iter().map(|time| shown(*time)).collect();
         cells.push(ratio(times[3], times[0]));
         cells.push(ratio(length(&bundles[3]), length(&bundles[0])));
-        println!("{name:<36}{}", row(&cells));
+        println!("{name:<NAME_WIDTH$}{}", row(&cells));
     }
     println!();
 }
@@ -298,9 +335,9 @@ fn print_other_calls() {
         "with bytes",
         "ratio",
     ];
-    println!("{:<36}{}", "case", row(&heads.map(str::to_string)));
+    println!("{:<NAME_WIDTH$}{}", "case", row(&heads.map(str::to_string)));
     for (name, bundle) in cases() {
-        println!("{name:<36}{}", row(&other_cells(&bundle)));
+        println!("{name:<NAME_WIDTH$}{}", row(&other_cells(&bundle)));
     }
 }
 

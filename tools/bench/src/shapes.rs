@@ -459,3 +459,66 @@ pub fn all_names_alike(bytes: usize) -> Bundle {
         bundle(vec![define(TARGET, array(sum(count, &path), U8))])
     })
 }
+
+// The bundles that a request named, with the bytes that it gave: references of two
+// names and no edges fit all five. In the last two the bytes do not say which fields
+// are referred to, nor in which order fields of two types stand.
+
+/// A struct whose fields all lead to one definition.
+fn all_lead_to(count: usize, target: Type) -> Bundle {
+    bundle(vec![
+        define(OWNER, structure(fields(count, Type::TypeRef(TARGET)))),
+        define(TARGET, target),
+    ])
+}
+
+/// So many fields that lead to an array, whose size has as many references to a field
+/// that the struct does not have.
+fn requested_missing(count: usize) -> Bundle {
+    let length = sum(count, &|_| field_of(OWNER, MISSING));
+    all_lead_to(count, array(length, U8))
+}
+
+pub fn request_missing() -> Bundle {
+    requested_missing(2_700)
+}
+
+/// The same with an enum of two U8 variants, whose tag refers to the last field.
+pub fn request_enum() -> Bundle {
+    const COUNT: usize = 2_700;
+    let last = FIRST + COUNT as Name - 1;
+    let tag = sum(COUNT, &|_| field_of(OWNER, last));
+    all_lead_to(COUNT, enumeration(tag, variants(2, U8)))
+}
+
+/// The first with 600 fields and references.
+pub fn request_some_missing() -> Bundle {
+    requested_missing(600)
+}
+
+/// An enum tag of 3,000 references into a struct of 3,500 fields, of which the last
+/// holds the enum. Each reference leads to a field of its own.
+pub fn request_tag() -> Bundle {
+    let mut list = fields(3_499, U8);
+    list.push((MISSING, Type::TypeRef(TARGET)));
+    let tag = sum(3_000, &|number| field_of(OWNER, FIRST + number as Name));
+    bundle(vec![
+        define(OWNER, structure(list)),
+        define(TARGET, enumeration(tag, variants(2, U8))),
+    ])
+}
+
+/// 1,200 fields, the first half plain. The others lead to one record of 20 arrays, each
+/// of which has the length that one of the plain fields gives.
+pub fn request_plausible() -> Bundle {
+    const HALF: usize = 600;
+    const ARRAYS: usize = 20;
+    let mut list = fields(2 * HALF, Type::TypeRef(TARGET));
+    list[..HALF].iter_mut().for_each(|field| field.1 = U8);
+    let length = |number: usize| field_of(OWNER, FIRST + (number * HALF / ARRAYS) as Name);
+    let record = (0..ARRAYS).map(|number| (number as Name, array(length(number), U8)));
+    bundle(vec![
+        define(OWNER, structure(list)),
+        define(TARGET, structure(record.collect())),
+    ])
+}
