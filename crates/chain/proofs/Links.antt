@@ -1,6 +1,6 @@
 -- The edges linked by the number that they lead to.
 --     same-refl, -first, -link     a store into the places that are linked by changes nothing else
---     cleared-more                 one number more that no edge leads to
+--     cleared                      no edge leads to any number
 --     linking-none, -more          before any edge is linked, and one edge more
 --     linked-same                  linked edges where all places are as they were
 use Prim.Native.Nat.{ℕ, _+_, _*_, _≤_, _<_}
@@ -12,9 +12,10 @@ use native.Mathlib.Decide.{ℕ-discrete}
 use lib.ListN.{length, length-set, set}
 use lib.Seq.{getD-set-same, getD-set-other}
 use Rattle.meaning.specs.Chain.{Graph}
+use Rattle.table.specs.Table.{Filled}
 use Rattle.chain.specs.Index.{toIn, linkIn, firstIn, Same, Cleared, Tied, NextTo, Linked, Linking}
 
-pub same-refl : (count : ℕ) (edges : List ℕ) → Same count edges edges
+same-refl : (count : ℕ) (edges : List ℕ) → Same count edges edges
 same-refl count edges = record { froms = λ e l. refl; tos = λ e l. refl; table = λ i l. refl; size = refl }
 
 -- a store between the ends and the table, or into a link
@@ -28,16 +29,22 @@ same-store {count} {edges} {edges′} p v l no-from no-to s =
       size = length-set edges′ p v ∙ s .size;
     }
 
-pub same-first : {count : ℕ} {edges edges′ : List ℕ} (x v : ℕ) → x < 2 * count → Same count edges edges′ → Same count edges (set edges′ (3 * count + 1 + x) v)
+same-first : {count : ℕ} {edges edges′ : List ℕ} (x v : ℕ) → x < 2 * count → Same count edges edges′ → Same count edges (set edges′ (3 * count + 1 + x) v)
 same-first {count} x v l = same-store (3 * count + 1 + x) v (omega arith) (λ e k q. omega arith) (λ e k q. omega arith)
 
 same-link : {count : ℕ} {edges edges′ : List ℕ} (e v : ℕ) → e < count → Same count edges edges′ → Same count edges (set edges′ (3 * e + 3) v)
 same-link e v l = same-store (3 * e + 3) v (omega arith) (λ d k q. omega arith) (λ d k q. omega arith)
 
-pub cleared-more : {count x : ℕ} (edges : List ℕ) → x < 2 * count → 5 * count < length edges → Cleared count x edges → Cleared count (x + 1) (set edges (3 * count + 1 + x) count)
-cleared-more {count} {x} edges l room c y k =
-    by-cases (ℕ-discrete y x) (λ (q : y ≡ x). rw q (getD-set-same edges (3 * count + 1 + x) count 0 (omega arith)))
-    (λ (q : ¬ (y ≡ x)). getD-set-other edges (3 * count + 1 + x) (3 * count + 1 + y) count 0 (λ r. q (omega arith)) ∙ c y (omega arith))
+pub cleared : {count : ℕ} {edges edges′ : List ℕ} → Filled (3 * count + 1) (2 * count) count (2 * count) edges edges′ → Cleared count (2 * count) edges′ × Same count edges edges′
+cleared f = (
+  f .each,
+  record {
+    froms = λ e l. f .only .before (3 * e + 1) (omega arith);
+    tos = λ e l. f .only .before (3 * e + 2) (omega arith);
+    table = λ i l. f .only .behind i (omega arith);
+    size = f .only .size;
+  },
+)
 
 pub linking-none : {count : ℕ} {edges : List ℕ} → Cleared count (2 * count) edges → Linking count edges count edges
 linking-none {count} {edges} c =

@@ -63,11 +63,7 @@ fn clear(edges: &mut [u16], count: usize)
     requires { ⌜ (5 * count < length (now edges)) × (count ≤ 1024) ⌝ }
     ensures { λ _. ⌜ Cleared count (2 * count) (now (edges .exit)) × Same count (now (edges .entry)) (now (edges .exit)) ⌝ }
 {
-    let mut x = 0;
-    while x < 2 * count {
-        edges[3 * count + 1 + x] = count as u16;
-        x += 1;
-    }
+    table::fill(edges, 3 * count + 1, 2 * count, count as u16);
 }
 
 // Links the edges that lead to each number, from the last edge to the first, so that the first stands at the head.

@@ -5,9 +5,8 @@ use Prim.Native.Nat.{ℕ, suc, _+_, _≤_}
 use native.Mathlib.Omega.{arith}
 use mathlib.Core.Bool.{Bool, true, false, cond}
 use mathlib.Core.List.{List, [], _∷_, map}
-use mathlib.Core.Option.{none}
-use mathlib.Core.Path.{_≡_, refl, sym, ap, _∙_}
-use types.Run.{OneOf, miss}
+use mathlib.Core.Path.{_≡_, sym, ap, _∙_}
+use types.Run.{OneOf}
 use denote.Enum.Declared.{tagOf}
 use lib.Dec.{eqb}
 use lib.ListN.{length, length-map}
@@ -18,20 +17,12 @@ use Rattle.fields.specs.declared.Shape.{Shape}
 use Rattle.fields.specs.declared.Shape.the-variants as shape
 use Rattle.fields.specs.Shapes.{ShapeOf, refShown}
 use Rattle.fields.proofs.Shape.{the-type}
-use Rattle.fields.proofs.ShapeLaws.{shape-ref}
+use Rattle.fields.proofs.ShapeLaws.{shape-ref, no-ref}
 use Rattle.field_index.specs.Noted.{leadShown}
-
--- no TypeRef
-pub ref-other : (r : Shape) → OneOf (0 ∷ 1 ∷ 2 ∷ 4 ∷ []) (tagOf the-type r) → refShown r ≡ none
-ref-other (shape.Struct k) o = refl
-ref-other shape.Enum o = refl
-ref-other (shape.Array k) o = refl
-ref-other (shape.TypeRef k) o = absurd (miss (0 ∷ 1 ∷ 2 ∷ 4 ∷ []) 3 tt o)
-ref-other shape.Plain o = refl
 
 module _ (at : ℕ) (s : List ℕ) (r : Shape) (g : ShapeOf 23 s at r) where
   pub lead-none : OneOf (0 ∷ 1 ∷ 2 ∷ 4 ∷ []) (tagOf the-type r) → 0 ≡ leadShown (bundleOf s) (asTypeRef (typeAt 23 s at))
-  lead-none o = ap (leadShown (bundleOf s)) (sym (shape-ref 23 at s r g ∙ ref-other r o))
+  lead-none o = ap (leadShown (bundleOf s)) (sym (no-ref 23 at s r o g))
 
   pub lead-some : {x i : ℕ} → r ≡ shape.TypeRef x → i ≡ definitionOf (bundleOf s) x → i + 1 ≡ leadShown (bundleOf s) (asTypeRef (typeAt 23 s at))
   lead-some e q = ap (λ k. k + 1) q ∙ ap (leadShown (bundleOf s)) (sym (shape-ref 23 at s r g ∙ ap refShown e))

@@ -163,6 +163,13 @@ shape-ref d at s (shape.Array jagged) g = rw (g .tree)
 shape-ref d at s (shape.TypeRef n) g = rw g
 shape-ref d at s shape.Plain g = plain-ref (typeAt d s at) g
 
+pub no-ref : (d at : ℕ) (s : List ℕ) (r : Shape) → OneOf (0 ∷ 1 ∷ 2 ∷ 4 ∷ []) (tagOf the-type r) → ShapeOf d s at r → asTypeRef (typeAt d s at) ≡ none
+no-ref d at s (shape.Struct n) o g = shape-ref d at s (shape.Struct n) g
+no-ref d at s shape.Enum o g = shape-ref d at s shape.Enum g
+no-ref d at s (shape.Array jagged) o g = shape-ref d at s (shape.Array jagged) g
+no-ref d at s (shape.TypeRef n) o g = absurd (miss (0 ∷ 1 ∷ 2 ∷ 4 ∷ []) 3 tt o)
+no-ref d at s shape.Plain o g = shape-ref d at s shape.Plain g
+
 -- the fields of a struct, by its shape
 plain-struct : (t : Ty) → isPlain t ≡ true → asStruct t ≡ none
 plain-struct (primitive k) e = refl

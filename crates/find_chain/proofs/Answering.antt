@@ -1,8 +1,7 @@
 -- What a call for a chain answers for what was found.
 --     copying-start, -next, -end      names copied one after another
---     part-answers                    the chain stands in the part that is lent
 --     call-none, -fits, -long         no chain, one that the list has places for, and one that it has not
-use Prim.Native.Nat.{ℕ, suc, _+_, _-_, _≤_, _<_}
+use Prim.Native.Nat.{ℕ, suc, _+_, _≤_, _<_}
 use mathlib.Core.Path.{_≡_, refl, sym, ap, subst, _∙_}
 use mathlib.Core.List.{List, _++_}
 use mathlib.Core.Option.{Option}
@@ -17,7 +16,6 @@ use Rattle.bundle.specs.Opened.{answerMeant}
 use Rattle.bundle.specs.declared.Answer.the-variants.{Accepted, Refused}
 use Rattle.chain.specs.Found.{Answers, Stands}
 use Rattle.chain.proofs.Called.{answer-none, answer-stands}
-use Rattle.chain.proofs.Parts.{whole-part}
 use Rattle.chain.specs.declared.Found.{Found}
 use Rattle.chain.specs.declared.Found.the-variants.{Missing, Chain}
 
@@ -74,7 +72,3 @@ module _ {o : Option (List ℕ)} {names : List ℕ} {found : Found} (a : Answers
     unfolding answerMeant calls.answerOf calls.placesAfter
     call-long l =
         rw (stands .is) (record { answer = rw (size, lt-leb n (length list) l); places = rw (size, lt-leb n (length list) l) })
-
--- the chain stands in the part that is lent
-pub part-answers : {o : Option (List ℕ)} {r : Found} (a : ℕ) (work : List ℕ) → Answers o (drop a work) r → Answers o (take (length work - a) (drop a work)) r
-part-answers {o} {r} a work h = subst (λ (xs : List ℕ). Answers o xs r) (sym (whole-part a work)) h

@@ -5,7 +5,7 @@ use mathlib.Core.Bool.{Bool, true, false, cond}
 use mathlib.Core.Option.{Option, none, some}
 use mathlib.Core.Path.{_≡_, refl, sym, ap, subst, _∙_}
 use mathlib.Core.List.{List, [], _∷_, map}
-use types.Run.{OneOf, miss}
+use types.Run.{OneOf}
 use denote.Enum.Declared.{tagOf}
 use lib.ListN.{length, drop}
 use Rattle.meaning.specs.Lists.{findMap, orElse, onlyIf}
@@ -20,7 +20,7 @@ use Rattle.fields.specs.declared.Shape.{Shape}
 use Rattle.fields.specs.declared.Shape.the-variants as shape
 use Rattle.fields.specs.Shapes.{ShapeOf, refShown, DefinitionIs}
 use Rattle.fields.proofs.Shape.{the-type}
-use Rattle.fields.proofs.ShapeLaws.{shape-ref}
+use Rattle.fields.proofs.ShapeLaws.{shape-ref, no-ref}
 use Rattle.sizes.specs.declared.Found.{Found}
 use Rattle.sizes.specs.declared.Found.the-variants.{At, Nothing}
 use Rattle.sizes.specs.Paths.{Fit}
@@ -82,19 +82,11 @@ module _ {s : List ℕ} {n j : ℕ} {t : Ty} {r : Found} (w : ForwardIn s n j t 
   pub forward-many : PartOf (pathAt s p) part.Other → ⊥
   forward-many o = o (bundleOf s .current) (subst (OneField s) q (w .one))
 
--- no TypeRef
-ref-other : (r : Shape) → OneOf (0 ∷ 1 ∷ 2 ∷ 4 ∷ []) (tagOf the-type r) → refShown r ≡ none
-ref-other (shape.Struct k) o = refl
-ref-other shape.Enum o = refl
-ref-other (shape.Array k) o = refl
-ref-other (shape.TypeRef k) o = absurd (miss (0 ∷ 1 ∷ 2 ∷ 4 ∷ []) 3 tt o)
-ref-other shape.Plain o = refl
-
 -- the field of a name f at index j, whose type stands at a position
 module _ (s : List ℕ) (n j f at : ℕ) (r : Shape) (g : ShapeOf 23 s at r) (v : ℕ) where
   pub field-other : OneOf (0 ∷ 1 ∷ 2 ∷ 4 ∷ []) (tagOf the-type r) → (i : ℕ) → checkFieldLayoutDependency (bundleOf s) i n (j, member f v (typeAt 23 s at)) ≡ none
   unfolding checkFieldLayoutDependency
-  field-other o i = rw (shape-ref 23 at s r g, ref-other r o)
+  field-other o i = rw (no-ref 23 at s r o g)
 
   module _ {x : ℕ} (e : r ≡ shape.TypeRef x) where
     leads : asTypeRef (typeAt 23 s at) ≡ some x

@@ -146,8 +146,13 @@ module _ {g : Graph} {b m : ℕ} where
                 let t = s .covered j d k c (q ∙ p .before j k) z in
                 rw (kept (g .from d) (t .0), old j k) t
 
-    pub seeking-known : h < n → e < g .count → g .to e ≡ queue h → 0 < far (g .from e) → Seeking g b m far queue n h (e + 1)
-    seeking-known l here to known =
+    -- every edge before edge f to entry k leads from a number that is reached, and near enough
+    abbrev Covers : ℕ → ℕ → Type 0
+    Covers k f = (j d : ℕ) → j < n → d < g .count → g .to d ≡ queue j → Passed j d k f → (0 < far (g .from d)) × (far (g .from d) ≤ far (queue j) + 1)
+
+    -- the queue and the distances stay, and the search stands at edge f to entry k
+    moved : {k f : ℕ} → (k < n → (i : ℕ) → i < n → far (queue i) ≤ far (queue k) + 1) → Covers k f → k ≤ n → Seeking g b m far queue n k f
+    moved near covered head =
         record {
           ends = s .ends;
           target = s .target;
@@ -156,13 +161,16 @@ module _ {g : Graph} {b m : ℕ} where
           apart = s .apart;
           reached = s .reached;
           rising = s .rising;
-          near = s .near;
+          near = near;
           entered = s .entered;
           covered = covered;
-          head = s .head;
+          head = head;
         }
+
+    pub seeking-known : h < n → e < g .count → g .to e ≡ queue h → 0 < far (g .from e) → Seeking g b m far queue n h (e + 1)
+    seeking-known l here to known = moved (s .near) covered (s .head)
       where
-        covered : (j d : ℕ) → j < n → d < g .count → g .to d ≡ queue j → Passed j d h (e + 1) → (0 < far (g .from d)) × (far (g .from d) ≤ far (queue j) + 1)
+        covered : Covers h (e + 1)
         covered j d a c q =
             ⊎-elim (λ (z : j < h). s .covered j d a c q (inl z))
             (λ (z : (j ≡ h) × (d < e + 1)).
@@ -174,22 +182,9 @@ module _ {g : Graph} {b m : ℕ} where
             (below-one-more (z .1)))
 
     pub seeking-skip : (f : ℕ) → e ≤ f → ((d : ℕ) → e ≤ d → d < f → d < g .count → g .to d ≡ queue h → ⊥) → Seeking g b m far queue n h f
-    seeking-skip f past none =
-        record {
-          ends = s .ends;
-          target = s .target;
-          walks = s .walks;
-          inside = s .inside;
-          apart = s .apart;
-          reached = s .reached;
-          rising = s .rising;
-          near = s .near;
-          entered = s .entered;
-          covered = covered;
-          head = s .head;
-        }
+    seeking-skip f past none = moved (s .near) covered (s .head)
       where
-        covered : (j d : ℕ) → j < n → d < g .count → g .to d ≡ queue j → Passed j d h f → (0 < far (g .from d)) × (far (g .from d) ≤ far (queue j) + 1)
+        covered : Covers h f
         covered j d a c q =
             ⊎-elim (λ (z : j < h). s .covered j d a c q (inl z))
             (λ (z : (j ≡ h) × (d < f)).
@@ -197,24 +192,14 @@ module _ {g : Graph} {b m : ℕ} where
             (λ (w : ¬ (d < e)). absurd (none d (omega arith) (z .1) c (q ∙ ap queue (z .0)))))
 
     pub seeking-next : h < n → g .count ≤ e → Seeking g b m far queue n (h + 1) 0
-    seeking-next l all =
-        record {
-          ends = s .ends;
-          target = s .target;
-          walks = s .walks;
-          inside = s .inside;
-          apart = s .apart;
-          reached = s .reached;
-          rising = s .rising;
-          near = λ k i a. omega (arith, s .near l i a, s .rising h (h + 1) (omega arith) k);
-          entered = s .entered;
-          covered = λ j d a c q.
-              ⊎-elim
-              (λ (z : j < h + 1).
-              s .covered j d a c q (⊎-elim (λ (w : j < h). inl w) (λ (w : j ≡ h). inr (w, omega arith)) (below-one-more z)))
-              (λ (z : (j ≡ h + 1) × (d < 0)). absurd (omega (arith, z .1)));
-          head = omega arith;
-        }
+    seeking-next l all = moved (λ k i a. omega (arith, s .near l i a, s .rising h (h + 1) (omega arith) k)) covered (omega arith)
+      where
+        covered : Covers (h + 1) 0
+        covered j d a c q =
+            ⊎-elim
+            (λ (z : j < h + 1).
+            s .covered j d a c q (⊎-elim (λ (w : j < h). inl w) (λ (w : j ≡ h). inr (w, omega arith)) (below-one-more z)))
+            (λ (z : (j ≡ h + 1) × (d < 0)). absurd (omega (arith, z .1)))
 
     pub seeking-end : n ≤ h → Far g b m far
     seeking-end all = record { walks = s .walks; small = small; least = least }

@@ -2,12 +2,14 @@
 --     wanted-is, wanted-not      it is so of the list itself; where no chain is wanted, of another of as many places
 --     wanted-on                  what follows for each list follows here
 --     wanted-sure                where a chain is wanted, it is so of the list
-use Prim.Native.Nat.{ℕ}
+--     wanted-part                the list is the part of a slice that is lent
+use Prim.Native.Nat.{ℕ, _-_}
 use mathlib.Core.Bool.{Bool, true, false}
 use mathlib.Core.Path.{_≡_, refl, sym, subst, _∙_}
 use mathlib.Core.List.{List}
 use native.Mathlib.Omega.{arith}
-use lib.ListN.{length}
+use lib.ListN.{length, take, drop}
+use Rattle.chain.proofs.Parts.{whole-part}
 use Rattle.search.specs.Work.{IfWanted}
 
 module _ {wanted : Bool} {list : List ℕ} {P : List ℕ → Type 0} where
@@ -26,3 +28,6 @@ module _ {wanted : Bool} {list : List ℕ} {P : List ℕ → Type 0} where
 
     pub wanted-sure : wanted ≡ true → P list
     wanted-sure e = subst P (w .same e) (w .holds)
+
+pub wanted-part : {wanted : Bool} {P : List ℕ → Type 0} (a : ℕ) (work : List ℕ) → IfWanted wanted (drop a work) P → IfWanted wanted (take (length work - a) (drop a work)) P
+wanted-part {wanted} {P} a work w = subst (λ (xs : List ℕ). IfWanted wanted xs P) (sym (whole-part a work)) w

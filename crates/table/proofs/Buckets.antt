@@ -1,6 +1,7 @@
 -- Members of a table by their buckets.
 --     in-bucket                a number's bucket is one of the buckets
---     emptying-start, -next, -end  one head after the other is set to 0
+--     filled-start, -next      one place after the other is written
+--     emptied                  no head has a member
 --     looking, looked, passed  a bucket gone through from its head: at the start, past one member, and at the end
 --     nearer                   each link leads to an earlier member
 --     found                    a member where x stands is the place of x
@@ -16,44 +17,37 @@ use native.Mathlib.Nat.{mod-lt}
 use borrow.Author.Tests.{eq-eqb, ne-eqb}
 use lib.ListN.{length, length-set, getD, set}
 use lib.Seq.{getD-set-same, getD-set-other}
-use Rattle.table.specs.Table.{member, link, Last, Members, put, Within, PlaceOf, Entered}
+use Rattle.table.specs.Table.{member, link, Last, Members, put, Filled, PlaceOf, Entered}
 
 pub in-bucket : (b x : ℕ) → 0 < b → x % b < b
 in-bucket b x l = mod-lt x l
 
--- the first i heads from a on are 0, and nothing else is changed
-pub record Emptying (t₀ t : List ℕ) (a b i : ℕ) : Type 0 where
-  pub zeros : (h : ℕ) → h < i → getD t (a + h) 0 ≡ 0
-  pub only : Within a (a + b) t₀ t
+pub filled-start : (a n v : ℕ) (t : List ℕ) → Filled a n v 0 t t
+filled-start a n v t =
+    record { each = λ h l. absurd (omega arith); only = record { size = refl; before = λ i l. refl; behind = λ i l. refl } }
 
-pub emptying-start : (t : List ℕ) (a b : ℕ) → Emptying t t a b 0
-emptying-start t a b =
-    record { zeros = λ h l. absurd (omega arith); only = record { size = refl; before = λ i l. refl; behind = λ i l. refl } }
-
-pub emptying-next : {t₀ : List ℕ} (t : List ℕ) (a b i : ℕ) → i < b → a + b ≤ length t₀ → Emptying t₀ t a b i → Emptying t₀ (set t (a + i) 0) a b (i + 1)
-emptying-next {t₀} t a b i l fits o =
+pub filled-next : {t₀ : List ℕ} (t : List ℕ) (a n v i : ℕ) → i < n → a + n ≤ length t₀ → Filled a n v i t₀ t → Filled a n v (i + 1) t₀ (set t (a + i) v)
+filled-next {t₀} t a n v i l fits o =
     record {
-      zeros = λ h m.
-          by-cases (ℕ-discrete h i) (λ (q : h ≡ i). rw q (getD-set-same t (a + i) 0 0 (omega (arith, o .only .size))))
-          (λ (q : ¬ (h ≡ i)). getD-set-other t (a + i) (a + h) 0 0 (λ e. q (omega (arith, e))) ∙ o .zeros h (omega arith));
+      each = λ h m.
+          by-cases (ℕ-discrete h i) (λ (q : h ≡ i). rw q (getD-set-same t (a + i) v 0 (omega (arith, o .only .size))))
+          (λ (q : ¬ (h ≡ i)). getD-set-other t (a + i) (a + h) v 0 (λ e. q (omega (arith, e))) ∙ o .each h (omega arith));
       only = record {
-        size = length-set t (a + i) 0 ∙ o .only .size;
-        before = λ j m. getD-set-other t (a + i) j 0 0 (λ e. omega (arith, e)) ∙ o .only .before j m;
-        behind = λ j m. getD-set-other t (a + i) j 0 0 (λ e. omega (arith, e)) ∙ o .only .behind j m;
+        size = length-set t (a + i) v ∙ o .only .size;
+        before = λ j m. getD-set-other t (a + i) j v 0 (λ e. omega (arith, e)) ∙ o .only .before j m;
+        behind = λ j m. getD-set-other t (a + i) j v 0 (λ e. omega (arith, e)) ∙ o .only .behind j m;
       };
     }
 
-pub emptying-end : {t₀ : List ℕ} (t : List ℕ) (a b : ℕ) {i : ℕ} → b ≤ i → 0 < b → a + b ≤ length t₀ → Emptying t₀ t a b i → Members t a b 0 × Within a (a + b) t₀ t
-emptying-end t a b m l fits o = (
-  record {
-    buckets = l;
-    within = omega (arith, o .only .size);
-    apart = λ i j c d _. omega arith;
-    heads = λ h c. rw (o .zeros h (omega arith)) (record { within = omega arith; here = λ d. absurd (omega arith); none = λ k d e _. omega arith });
-    links = λ k c. absurd (omega arith);
-  },
-  o .only,
-)
+pub emptied : {t t′ : List ℕ} {a b : ℕ} → 0 < b → a + b ≤ length t → Filled a b 0 b t t′ → Members t′ a b 0
+emptied l fits o =
+    record {
+      buckets = l;
+      within = omega (arith, o .only .size);
+      apart = λ i j c d _. omega arith;
+      heads = λ h c. rw (o .each h c) (record { within = omega arith; here = λ d. absurd (omega arith); none = λ k d e _. omega arith });
+      links = λ k c. absurd (omega arith);
+    }
 
 -- x is none of the members from e on, and the member before e is of its bucket
 pub record Looking (t : List ℕ) (a b n x e : ℕ) : Type 0 where

@@ -38,6 +38,11 @@ pub record Within (a e : ℕ) (t t′ : List ℕ) : Type 0 where
   pub before : (i : ℕ) → i < a → getD t′ i 0 ≡ getD t i 0
   pub behind : (i : ℕ) → e ≤ i → getD t′ i 0 ≡ getD t i 0
 
+-- the first i of n places from a on have v, and t′ is t but for the n
+pub record Filled (a n v i : ℕ) (t t′ : List ℕ) : Type 0 where
+  pub each : (h : ℕ) → h < i → getD t′ (a + h) 0 ≡ v
+  pub only : Within a (a + n) t t′
+
 -- r is the place of x among the first n members, or n where x is none of them
 pub record PlaceOf (t : List ℕ) (a b n x r : ℕ) : Type 0 where
   pub within : r ≤ n

@@ -4,7 +4,7 @@
 ghost use Prim.Native.Nat.{_+_, _*_, _%_, _≤_, _<_};
 ghost use mathlib.Core.Path.{_≡_};
 ghost use lib.ListN.{length};
-ghost use Rattle.table.specs.Table.{put, Within, Members, PlaceOf, Entered};
+ghost use Rattle.table.specs.Table.{put, Within, Filled, Members, PlaceOf, Entered};
 
 // The bucket of a number.
 fn bucket_of(x: u16, buckets: usize) -> usize
@@ -57,14 +57,22 @@ pub fn enter(t: &mut [u16], base: usize, buckets: usize, n: usize, x: u16) -> us
     n
 }
 
+// Writes `v` to the `n` places from `base` on.
+pub fn fill(t: &mut [u16], base: usize, n: usize, v: u16)
+    requires { ⌜ base + n ≤ length (now t) ⌝ }
+    ensures { λ _. ⌜ Filled base n v n (now (t .entry)) (now (t .exit)) ⌝ }
+{
+    let mut i = 0;
+    while i < n {
+        t[base + i] = v;
+        i += 1;
+    }
+}
+
 // Empties the table: no head has a member.
 pub fn empty(t: &mut [u16], base: usize, buckets: usize)
     requires { ⌜ (0 < buckets) × (base + buckets ≤ length (now t)) ⌝ }
     ensures { λ _. ⌜ Members (now (t .exit)) base buckets 0 × Within base (base + buckets) (now (t .entry)) (now (t .exit)) ⌝ }
 {
-    let mut i = 0;
-    while i < buckets {
-        t[base + i] = 0;
-        i += 1;
-    }
+    fill(t, base, buckets, 0);
 }

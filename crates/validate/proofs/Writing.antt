@@ -7,7 +7,7 @@ use mathlib.Core.Path.{_≡_, refl, sym, ap, subst, _∙_}
 use mathlib.Core.List.{List, [], _∷_, _++_, append-nil, map}
 use lib.Dec.{T, leb, leb→le, ltb}
 use borrow.Author.Tests.{lt-ltb, ltb-false}
-use lib.ListN.{length, getD, take, drop, length-append, length-take}
+use lib.ListN.{length, getD, take, length-append, length-take}
 use lib.Seq.{length-take-le}
 use Rattle.names.specs.Documents.{bytes}
 use Rattle.meaning.specs.Kinds.{formOf, lookup}
@@ -18,7 +18,6 @@ use Rattle.meaning.specs.Violations.{Violation, violation, enumForward, enumCyc
 use Rattle.meaning.proofs.Lists.{flatMap-append}
 use Rattle.meaning.proofs.ExprSpans.{all-at}
 use Rattle.names.proofs.Items.{bytes-append}
-use Rattle.chain.proofs.Parts.{whole-part}
 use Rattle.sizes.specs.Paths.{Fit}
 use Rattle.sizes.specs.Scan.{formAt, namesIn, namesAt, pathAt, referencesFrom, pathsFrom, Fits}
 use Rattle.sizes.proofs.PathLaws.{path-names}
@@ -292,11 +291,3 @@ module _ {s : List ℕ} {n : ℕ} {wanted : Bool} {list : List ℕ} {c : Check} 
           counts = omega (arith, r .counts, same .1);
           short = omega (arith, r .short, same .0, same .1);
         }
-
--- the list is a part of the workspace that is lent
-pub wanted-part : {wanted : Bool} {P : List ℕ → Type 0} (a : ℕ) (work : List ℕ) → IfWanted wanted (drop a work) P → IfWanted wanted (take (length work - a) (drop a work)) P
-wanted-part {wanted} {P} a work w = subst (λ (xs : List ℕ). IfWanted wanted xs P) (sym (whole-part a work)) w
-
--- the chain stands in the part of the workspace that is lent
-pub checked-part : {s : List ℕ} {n : ℕ} (a : ℕ) (work : List ℕ) {r : Check} {o : ℕ → Option Violation} → Checked s n (drop a work) r o → Checked s n (take (length work - a) (drop a work)) r o
-checked-part {s} {n} a work {r} {o} c = subst (λ (xs : List ℕ). Checked s n xs r o) (sym (whole-part a work)) c

@@ -8,8 +8,7 @@ use mathlib.Core.Path.{refl, subst}
 use Rattle.meaning.specs.Calls.{result, Call}
 use Rattle.meaning.specs.Due.{chainNames}
 use Rattle.bundle.specs.Opened.{answerMeant}
-use Rattle.search.proofs.Wanted.{wanted-sure}
-use Rattle.find_chain.proofs.Answering.{part-answers}
+use Rattle.search.proofs.Wanted.{wanted-sure, wanted-part}
 
 prepare-requires : tie.Need-prepare-requires
 prepare-requires c κs = search needs
@@ -36,7 +35,7 @@ part-answer-for-end : tie.Need-part-answer-for-end
 part-answer-for-end c = omega (arith, c .before .before .before .find .ensures .1 .room)
 
 answer-for-requires : tie.Need-answer-for-requires
-answer-for-requires c κs = (_, part-answers (6 * c .before .before .before .before .before .before .before .before .before .before .before .before .before .before .before .before .args .count + 1) (c .before .before .before .before .before .find .last .1 .1 .1 .1 .1 .0) (wanted-sure (c .before .before .before .before .before .find .ensures .0) refl))
+answer-for-requires c κs = (_, wanted-sure (wanted-part (6 * c .before .before .before .before .before .before .before .before .before .before .before .before .before .before .before .before .args .count + 1) (c .before .before .before .before .before .find .last .1 .1 .1 .1 .1 .0) (c .before .before .before .before .before .find .ensures .0)) refl)
 
 same-length : tie.Need-same-length
 same-length c = c .before .before .before .before .before .before .before .before .before .before .before .before .before .prepare .kept .1 .1 .1 .0
@@ -50,7 +49,7 @@ same-length-3 c = c .before .before .answer-for .kept .1 .1 .0
 returns : tie.Need-returns
 returns c = let a = c .before .before .before .before .before .before .before .before .before .before .before .before .before .before .before .before .before .before .before .args in
     subst (λ o. Call (result (chainNames o)) (a .list .now) (c .before .before .answer-for .last .1 .1 .0) (answerMeant (c .before .before .answer-for .result))) (prepared-chain (c .before .before .before .before .before .before .before .before .before .before .before .before .before .prepare .ensures) (a .from) (a .to))
-    (c .before .before .answer-for .ensures _ (part-answers (6 * c .before .before .before .before .before .before .before .before .before .before .before .before .before .before .before .before .before .before .before .args .count + 1) (c .before .before .before .before .before .before .before .before .find .last .1 .1 .1 .1 .1 .0) (wanted-sure (c .before .before .before .before .before .before .before .before .find .ensures .0) refl)))
+    (c .before .before .answer-for .ensures _ (wanted-sure (wanted-part (6 * c .before .before .before .before .before .before .before .before .before .before .before .before .before .before .before .before .before .before .before .args .count + 1) (c .before .before .before .before .before .before .before .before .find .last .1 .1 .1 .1 .1 .0) (c .before .before .before .before .before .before .before .before .find .ensures .0)) refl))
 
 pub find-with-spec : {M : Type 1} → statement M
 find-with-spec =

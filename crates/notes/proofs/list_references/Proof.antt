@@ -1,5 +1,5 @@
 -- `notes::list_references` meets its contract: the invariant is `Listing`.
-use Prim.Native.Nat.{_+_, _-_}
+use Prim.Native.Nat.{_+_, _-_, _<_}
 use mathlib.Core.Path.{_≡_, refl, _∙_}
 use native.Mathlib.Omega.{arith}
 use lib.ListN.{length, length-set}
@@ -14,6 +14,15 @@ Inv-loop s places₀ layout used to₀ i₀ places to i = Listing s layout place
 
 abbrev μ-loop : tie.MeasureT-loop
 μ-loop s places₀ layout used to₀ i₀ places to i = layout .definitions - i
+
+-- where the list of the definition ends can be noted
+small : (c : tie.After-slice-known2 Inv-loop μ-loop) → (c .before .before .list-definition .result < 65536)
+    × (2306 + (c .before .before .before .before .before .before .loop .i + 1) < length (c .before .before .list-definition .last .1 .0))
+small c =
+    let e = c .before .before .list-definition .ensures in
+    let l = c .before .before .before .before .before .before .loop .inv .0 in
+    let b = c .before .before .before .before .if1 .taken in
+    listing-small l b (e .0) (e .1)
 
 cast-places : tie.Need-cast-places Inv-loop μ-loop
 cast-places c = omega (arith, room-start (c .before .before .pre .0 .table) (c .before .before .pre .1) .small)
@@ -33,32 +42,16 @@ add-i : tie.Need-add-i Inv-loop μ-loop
 add-i c = search needs
 
 cast-places-2 : tie.Need-cast-places-2 Inv-loop μ-loop
-cast-places-2 c =
-    let e = c .before .before .list-definition .ensures in
-    let l = c .before .before .before .before .before .before .loop .inv .0 in
-    let b = c .before .before .before .before .if1 .taken in
-    omega (arith, listing-small l b (e .0) (e .1) .0)
+cast-places-2 c = omega (arith, small c .0)
 
 add-places : tie.Need-add-places Inv-loop μ-loop
-add-places c =
-    let e = c .before .before .list-definition .ensures in
-    let l = c .before .before .before .before .before .before .loop .inv .0 in
-    let b = c .before .before .before .before .if1 .taken in
-    omega (arith, listing-small l b (e .0) (e .1) .1)
+add-places c = omega (arith, small c .1)
 
 mul-places : tie.Need-mul-places Inv-loop μ-loop
-mul-places c =
-    let e = c .before .before .list-definition .ensures in
-    let l = c .before .before .before .before .before .before .loop .inv .0 in
-    let b = c .before .before .before .before .if1 .taken in
-    omega (arith, listing-small l b (e .0) (e .1) .1)
+mul-places c = omega (arith, small c .1)
 
 slice-write-places-2 : tie.Need-slice-write-places-2 Inv-loop μ-loop
-slice-write-places-2 c =
-    let e = c .before .before .list-definition .ensures in
-    let l = c .before .before .before .before .before .before .loop .inv .0 in
-    let b = c .before .before .before .before .if1 .taken in
-    listing-small l b (e .0) (e .1) .1
+slice-write-places-2 c = small c .1
 
 loop-less : tie.Need-loop-less Inv-loop μ-loop
 loop-less c = omega (arith, c .before .before .before .before .if1 .taken)

@@ -1,60 +1,17 @@
--- `table::empty` meets its contract. The invariant: the heads before i are 0.
-use Prim.Native.Nat.{_-_, _≤_}
-use mathlib.Core.Path.{_≡_, refl}
-use lib.ListN.{length, length-set}
-use Rattle.table.proofs.Buckets.{Emptying, emptying-start, emptying-next, emptying-end}
-use native.Mathlib.Omega.{arith}
+-- `table::empty` meets its contract: heads that are all 0 lead to no member.
 use borrow.Author.Needs.{needs}
+use Rattle.table.proofs.Buckets.{emptied}
 use Rattle.table.proofs.empty.Statement.{statement}
 use Rattle.table.proofs.empty.Tie as tie
 
-abbrev Inv-loop : tie.InvT-loop
-Inv-loop t₀ base buckets i₀ t i = (i ≤ buckets) × Emptying t₀ t base buckets i × (length t ≡ length t₀)
+fill-requires : tie.Need-fill-requires
+fill-requires c κs = search needs
 
-abbrev μ-loop : tie.MeasureT-loop
-μ-loop t₀ base buckets i₀ t i = buckets - i
-
-loop-holds : tie.Need-loop-holds Inv-loop μ-loop
-loop-holds c = (omega arith, emptying-start _ _ _, refl)
-
-add-t : tie.Need-add-t Inv-loop μ-loop
-add-t c = search needs
-
-mul-t : tie.Need-mul-t Inv-loop μ-loop
-mul-t c = search needs
-
-slice-write-t : tie.Need-slice-write-t Inv-loop μ-loop
-slice-write-t c = search needs
-
-add-i : tie.Need-add-i Inv-loop μ-loop
-add-i c = search needs
-
-loop-less : tie.Need-loop-less Inv-loop μ-loop
-loop-less c = search needs
-
-loop-again : tie.Need-loop-again Inv-loop μ-loop
-loop-again c = let l = c .before .loop in
-    (omega arith, emptying-next (l .t) (c .before .before .args .base) (c .before .before .args .buckets) (l .i) (omega arith) (c .before .before .pre .1) (l .inv .1), simp length-set (l .inv .2))
-
-same-length : tie.Need-same-length Inv-loop μ-loop
+same-length : tie.Need-same-length
 same-length c = search needs
 
-returns : tie.Need-returns Inv-loop μ-loop
-returns c = let l = c .before .loop in
-    emptying-end _ _ _ (omega arith) (c .before .before .pre .0) (c .before .before .pre .1) (l .inv .1)
+returns : tie.Need-returns
+returns c = let a = c .before .before .before .before .before .pre in (emptied (a .0) (a .1) (c .before .before .fill .ensures), c .before .before .fill .ensures .only)
 
 pub empty-spec : {M : Type 1} → statement M
-empty-spec =
-    tie.close
-    (tie.spec
-    Inv-loop
-    μ-loop
-    loop-holds
-    add-t
-    mul-t
-    slice-write-t
-    add-i
-    loop-less
-    loop-again
-    same-length
-    returns)
+empty-spec = tie.close (tie.spec fill-requires same-length returns)

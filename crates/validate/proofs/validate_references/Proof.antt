@@ -12,11 +12,12 @@ use Rattle.sizes.proofs.ScanLaws.{nothing-left}
 use Rattle.sizes.specs.Tests.{Kept}
 use Rattle.search.specs.Work.{Lent}
 use Rattle.search.proofs.Lists.{lent-anew}
+use Rattle.search.proofs.Wanted.{wanted-part}
 use Rattle.containers.specs.Containers.{Known}
 use Rattle.containers.proofs.Keeping.{known-start}
 use Rattle.checks.proofs.ForwardChecks.{reference-is, reference-no}
 use Rattle.validate.specs.Validating.{checkReference}
-use Rattle.validate.proofs.Writing.{put-fine, falls, wanted-part, meant-fits, meant-room, meant-wrote, Referencing, referencing-start, referencing-room, referencing-next, referencing-end}
+use Rattle.validate.proofs.Writing.{put-fine, falls, meant-fits, meant-room, meant-wrote, Referencing, referencing-start, referencing-room, referencing-next, referencing-end}
 
 abbrev Inv-loop : tie.InvT-loop
 Inv-loop s places layout kept₀ references edges work₀ out₀ i name end list known₀ next₀ reached₀ kept work out known next reached =

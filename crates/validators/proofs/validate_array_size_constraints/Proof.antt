@@ -9,10 +9,10 @@ use mathlib.Core.Path.{_≡_, sym, subst, _∙_}
 use lib.ListN.{length, take, drop}
 use Rattle.meaning.specs.Violations.{Violation}
 use Rattle.sizes.proofs.ReferenceLaws.{expr-bound, expr-fits}
+use Rattle.chain.proofs.Parts.{whole-part}
 use Rattle.search.proofs.Lists.{list-room, list-back}
 use Rattle.checks.specs.declared.Check.{Check}
 use Rattle.checks.specs.Checks.{Checked}
-use Rattle.validate.proofs.Writing.{checked-part}
 use Rattle.validate.proofs.Validators.{size-no, element-reads, array-violations, front-room, rest-room, rest-wrote}
 
 -- the workspace, where its list came back as ys
@@ -24,7 +24,7 @@ again : {s : List ℕ} {n : ℕ} {r : Check} {o : ℕ → Option Violation} (cou
     → length ys ≡ length (take (length work - (6 * count + 1)) (drop (6 * count + 1) work)) → Checked s n ys r o
     → Checked s n (take (length (after count work ys) - (6 * count + 1)) (drop (6 * count + 1) (after count work ys))) r o
 again {s} {n} {r} {o} count work room ys e c =
-    checked-part (6 * count + 1) (after count work ys) (subst (λ (xs : List ℕ). Checked s n xs r o) (sym (list-back count work room ys e .0)) c)
+    subst (λ (xs : List ℕ). Checked s n xs r o) (sym (whole-part (6 * count + 1) (after count work ys) ∙ list-back count work room ys e .0)) c
 
 mul-list : tie.Need-mul-list
 mul-list c = omega (arith, c .before .before .before .before .before .before .pre .1 .0 .0 .few)
