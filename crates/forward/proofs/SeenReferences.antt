@@ -14,7 +14,6 @@ use Rattle.meaning.specs.ReadType.{readTy}
 use Rattle.meaning.specs.Sizes.{namedSizeDepends, isEnumWithConstantSizeVariants}
 use Rattle.meaning.specs.Tree.{Ty, Bundle}
 use Rattle.meaning.specs.Violations.{typeNeedsFieldRefForLayout}
-use Rattle.meaning.proofs.Needs.{isConstantArray, needs-iff}
 use Rattle.bundle.specs.declared.Step.the-variants.{Next}
 use Rattle.bundle.specs.View.{stepOf}
 use Rattle.bundle.specs.Definitions.{typeAt, bundleOf, Table}
@@ -23,7 +22,8 @@ use Rattle.sizes.specs.Scan.{pathAt, referencesFrom, foundOf, Fits}
 use Rattle.sizes.specs.declared.Found.{Found}
 use Rattle.sizes.specs.declared.Found.the-variants.{At, Nothing}
 use Rattle.sizes.proofs.ReferenceLaws.{type-references}
-use Rattle.notes.specs.Notes.{needsReferences, neededOf, Lists, listStart, Listed}
+use Rattle.notes.specs.Notes.{isConstantArray, needsReferences, neededOf, Lists, listStart, Listed}
+use Rattle.notes.proofs.Needs.{needs-iff}
 use Rattle.forward.specs.Forward.{isForward, find, positionShown, FitIn, ForwardIn, isLater, isLaterAt, laterFrom, SeenTo, Seen}
 use Rattle.forward.proofs.FieldChecks.{forward-in}
 use Rattle.forward.proofs.LaterFields.{entry-later, later-falls}
