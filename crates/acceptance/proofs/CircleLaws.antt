@@ -12,6 +12,7 @@ use lib.Seq.{getD-set-same, getD-set-other}
 use Rattle.meaning.specs.Tree.{Bundle}
 use Rattle.meaning.specs.Lookup.{count}
 use Rattle.meaning.specs.Circle.{leadsTo, Leads, direct, onward, circles}
+use Rattle.meaning.proofs.Lists.{getD-zeros}
 use Rattle.meaning.proofs.Circle.{circles-iff, leads-from}
 use Rattle.acceptance.specs.Circles.{Ends, ends, unwalked, Marks, Followed, Decided, fine, loops}
 
@@ -143,17 +144,12 @@ pub record Settled (b : Bundle) (marks : List ℕ) (i : ℕ) : Type 0 where
   pub clear : (j : ℕ) → getD marks j 0 ≡ 1 → ⊥
   pub end : (j : ℕ) → j < i → Ends b j
 
-zeros : (n j : ℕ) → getD {A = ℕ} (replicate n 0) j 0 ≡ 0
-zeros zero j = refl
-zeros (suc n) zero = refl
-zeros (suc n) (suc j) = zeros n j
-
 pub settled-start : (b : Bundle) → Settled b (replicate 256 0) 0
 settled-start b =
     record {
       size = length-replicate {A = ℕ} 256 0;
-      walked = λ j h. absurd (omega (arith, rw (zeros 256 j) at h));
-      clear = λ j e. absurd (omega (arith, rw (zeros 256 j) at e));
+      walked = λ j h. absurd (omega (arith, rw (getD-zeros 256 j) at h));
+      clear = λ j e. absurd (omega (arith, rw (getD-zeros 256 j) at e));
       end = λ j h. absurd (omega arith);
     }
 

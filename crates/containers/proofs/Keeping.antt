@@ -1,5 +1,5 @@
 -- The answers of an enum that are kept.
-use Prim.Native.Nat.{ℕ, zero, suc, _+_, _<_}
+use Prim.Native.Nat.{ℕ, _+_, _<_}
 use native.Mathlib.Omega.{arith}
 use native.Mathlib.Decide.{ℕ-discrete}
 use mathlib.Core.Bool.{Bool, true, false}
@@ -13,6 +13,7 @@ use Rattle.names.proofs.Place.{getD-place}
 use Rattle.meaning.specs.Lists.{holds}
 use Rattle.meaning.specs.Lookup.{definitionOf, findType}
 use Rattle.meaning.specs.Sizes.{isEnumWithConstantSizeVariants}
+use Rattle.meaning.proofs.Lists.{getD-zeros}
 use Rattle.bundle.specs.Definitions.{bundleOf, Table}
 use Rattle.containers.specs.Containers.{LeadFor, containerShown, markOf, Known}
 
@@ -69,13 +70,8 @@ known-constant {known = known} k b {m} p q =
 -- nothing is known yet
 pub known-start : (s : List ℕ) (e : ℕ) → definitionOf (bundleOf s) e < length (bundleOf s .definitions) → Known s e (replicate 257 0)
 known-start s e d =
-    record { size = refl; defined = d; each = λ i m l. absurd (omega (arith, zeros 257 i, l)); constant = λ b q. absurd (unmarked b (sym (zeros 257 256) ∙ q)) }
+    record { size = refl; defined = d; each = λ i m l. absurd (omega (arith, getD-zeros 257 i, l)); constant = λ b q. absurd (unmarked b (sym (getD-zeros 257 256) ∙ q)) }
   where
-    zeros : (n i : ℕ) → _≡_ {A = ℕ} (getD (replicate n 0) i 0) 0
-    zeros zero i = refl
-    zeros (suc n) zero = refl
-    zeros (suc n) (suc i) = zeros n i
-
     unmarked : (b : Bool) → 0 ≡ markOf b → ⊥
     unmarked true q = omega arith
     unmarked false q = omega arith

@@ -1,5 +1,5 @@
 -- How far the references of a definition are seen: type 4.
-use Prim.Native.Nat.{ℕ, zero, suc, _+_, _-_, _*_, _≤_, _<_}
+use Prim.Native.Nat.{ℕ, _+_, _-_, _*_, _≤_, _<_}
 use native.Mathlib.Omega.{arith}
 use mathlib.Core.Bool.{Bool, true, false, not, cond, _&&_, _||_}
 use mathlib.Core.Option.{none, some}
@@ -14,7 +14,7 @@ use Rattle.meaning.specs.ReadType.{readTy}
 use Rattle.meaning.specs.Sizes.{namedSizeDepends, isEnumWithConstantSizeVariants}
 use Rattle.meaning.specs.Tree.{Ty, Bundle}
 use Rattle.meaning.specs.Violations.{typeNeedsFieldRefForLayout}
-use Rattle.meaning.proofs.Needs.{isConstantArray, needs-iff}
+use Rattle.meaning.proofs.Lists.{getD-zeros}
 use Rattle.bundle.specs.declared.Step.the-variants.{Next}
 use Rattle.bundle.specs.View.{stepOf}
 use Rattle.bundle.specs.Definitions.{typeAt, bundleOf, Table}
@@ -23,7 +23,8 @@ use Rattle.sizes.specs.Scan.{pathAt, referencesFrom, foundOf, Fits}
 use Rattle.sizes.specs.declared.Found.{Found}
 use Rattle.sizes.specs.declared.Found.the-variants.{At, Nothing}
 use Rattle.sizes.proofs.ReferenceLaws.{type-references}
-use Rattle.notes.specs.Notes.{needsReferences, neededOf, Lists, listStart, Listed}
+use Rattle.notes.specs.Notes.{isConstantArray, needsReferences, neededOf, Lists, listStart, Listed}
+use Rattle.notes.proofs.Needs.{needs-iff}
 use Rattle.forward.specs.Forward.{isForward, find, positionShown, FitIn, ForwardIn, isLater, isLaterAt, laterFrom, SeenTo, Seen}
 use Rattle.forward.proofs.FieldChecks.{forward-in}
 use Rattle.forward.proofs.LaterFields.{entry-later, later-falls}
@@ -194,9 +195,4 @@ seen-more l c = record {
 
 -- nothing is seen yet
 pub seen-start : (s places : List ℕ) (n j : ℕ) → Seen s places n j (replicate 256 0)
-seen-start s places n j = record { size = refl; each = λ i h. absurd (omega (arith, zeros 256 i, h)) }
-  where
-    zeros : (n i : ℕ) → _≡_ {A = ℕ} (getD (replicate n 0) i 0) 0
-    zeros zero i = refl
-    zeros (suc n) zero = refl
-    zeros (suc n) (suc i) = zeros n i
+seen-start s places n j = record { size = refl; each = λ i h. absurd (omega (arith, getD-zeros 256 i, h)) }

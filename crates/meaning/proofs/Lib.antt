@@ -28,7 +28,6 @@ pub mod Trees
 pub mod Renaming
 pub mod Sizes
 pub mod Equations
-pub mod Needs
 pub mod Counts
 pub mod Chains
 pub mod Injective

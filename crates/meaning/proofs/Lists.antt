@@ -6,7 +6,7 @@ use mathlib.Core.List.{List, [], _∷_, _++_, append-assoc, map, List·Memᴰ, L
 use mathlib.Core.Bool.{Bool, true, false, cond, _&&_, _||_, true≢false, false≢true}
 use mathlib.Core.Option.{Option, none, some, Option·map, Option·none-ne-some}
 use native.Mathlib.Omega.{arith}
-use lib.ListN.{length, getElem?}
+use lib.ListN.{length, getElem?, getD, replicate}
 use native.Mathlib.Decide.{ℕ-discrete}
 use Rattle.meaning.proofs.Pigeonhole.{Absent}
 use Rattle.meaning.specs.Lists.{enumerate, flatMap, push, filterMap, orElse, andThen, findMap, any, all, firstIndex, lastIndex, holds, onlyIf}
@@ -59,6 +59,12 @@ pub getElem?-map : {A B : Type 0} (f : A → B) (xs : List A) (i : ℕ) → getE
 getElem?-map f [] i = refl
 getElem?-map f (x ∷ xs) zero = refl
 getElem?-map f (x ∷ xs) (suc i) = getElem?-map f xs i
+
+-- zeros, and 0 behind them
+pub getD-zeros : (n i : ℕ) → _≡_ {A = ℕ} (getD (replicate n 0) i 0) 0
+getD-zeros zero i = refl
+getD-zeros (suc n) zero = refl
+getD-zeros (suc n) (suc i) = getD-zeros n i
 
 -- Maps.
 

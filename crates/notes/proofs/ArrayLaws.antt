@@ -17,8 +17,7 @@ use Rattle.fields.specs.declared.Shape.{Shape}
 use Rattle.fields.specs.declared.Shape.the-variants as shape
 use Rattle.fields.specs.Shapes.{ShapeOf, ArrayAt, isPlain}
 use Rattle.fields.proofs.Shape.{the-type}
-use Rattle.meaning.proofs.Needs.{isConstantArray}
-use Rattle.notes.specs.Notes.{needsReferences}
+use Rattle.notes.specs.Notes.{isConstantArray, needsReferences}
 
 plain-no : (t : Ty) → isPlain t ≡ true → false ≡ isConstantArray t
 plain-no (primitive k) e = refl

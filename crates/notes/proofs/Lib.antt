@@ -1,3 +1,4 @@
+pub mod Needs
 pub mod ArrayLaws
 pub mod Indices
 pub mod Stays

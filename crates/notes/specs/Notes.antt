@@ -1,7 +1,7 @@
 -- What is noted of a bundle behind the places of its definitions: the fields of its structs, and the references of its definitions with
 -- the fields to which they lead.
 use Prim.Native.Nat.{ℕ, _+_, _≤_, _<_}
-use mathlib.Core.Bool.{Bool, not, cond, _&&_}
+use mathlib.Core.Bool.{Bool, false, not, cond, _&&_}
 use mathlib.Core.Option.{Option, none, some}
 use mathlib.Core.List.{List, [], _∷_}
 use mathlib.Core.Path.{_≡_}
@@ -9,16 +9,26 @@ use lib.ListN.{length, getD}
 use Rattle.meaning.specs.Limits.{definitionLimit}
 use Rattle.meaning.specs.Lists.{firstIndex}
 use Rattle.meaning.specs.Lookup.{Target, namesField}
+use Rattle.meaning.specs.References.{isConstant}
 use Rattle.meaning.specs.Sizes.{isEnumWithConstantSizeVariants}
-use Rattle.meaning.specs.Tree.{Ty, Member, Bundle}
+use Rattle.meaning.specs.Tree.{Ty, primitive, typeRef, struct, union, enum, array, sizeUnion, Member, Bundle}
 use Rattle.meaning.specs.Violations.{structOf}
-use Rattle.meaning.proofs.Needs.{isConstantArray}
 use Rattle.bundle.specs.Definitions.{typeAt, bundleOf}
 use Rattle.sizes.specs.Scan.{Fits}
 use Rattle.fields.specs.Sought.{lastShown}
 use Rattle.field_index.specs.Noted as fields
 use Rattle.field_index.specs.Noted.{startsAt, referencesOf}
 use Rattle.checks.specs.Checks.{targetAt}
+
+-- the type is an array of constant size
+abbrev pub isConstantArray : Ty → Bool
+isConstantArray (primitive k) = false
+isConstantArray (typeRef n) = false
+isConstantArray (struct a ms) = false
+isConstantArray (union a ms) = false
+isConstantArray (enum a tag ms) = false
+isConstantArray (array a jagged size element) = isConstant size
+isConstantArray (sizeUnion a ms) = false
 
 -- the type needs the references in it for its layout, all or none of them
 unfoldable pub needsReferences : Ty → Bool

@@ -10,7 +10,6 @@ ghost use Prim.Native.Nat.{_+_, _*_, _≤_, _<_};
 ghost use lib.ListN.{length};
 ghost use Rattle.meaning.specs.Limits.{sizeLimit};
 ghost use Rattle.meaning.specs.ReadType.{readTy};
-ghost use Rattle.meaning.proofs.Needs.{isConstantArray};
 ghost use Rattle.bundle.specs.View.{Reads};
 ghost use Rattle.bundle.specs.Definitions.{typeAt, bundleOf, Table};
 ghost use Rattle.bundle.specs.Opened.{LayoutOf};
@@ -19,7 +18,7 @@ ghost use Rattle.sizes.specs.Paths.{Fit};
 ghost use Rattle.sizes.specs.Scan.{referencesFrom, Fits};
 ghost use Rattle.field_index.specs.Noted.{partsAt, referencesOf, Noted as Fields, NotedBelow};
 ghost use Rattle.checks.specs.Checks.{targetAt, typePart};
-ghost use Rattle.notes.specs.Notes.{needsReferences, neededOf, indexFor, Entry, Lists, Noted};
+ghost use Rattle.notes.specs.Notes.{isConstantArray, needsReferences, neededOf, indexFor, Entry, Lists, Noted};
 ghost use Rattle.notes.specs.Listing.{Room, FieldsBelow};
 
 // Where it stands for each definition where its list starts.

@@ -1,16 +1,17 @@
 -- Where a reference stands inside a named type, the size of that type depends on it or its layout needs it, unless the type is
--- an array of constant size. So code for violation type 4 need not compare references (a remark of proofs only: specs/ follows the Rust).
+-- an array of constant size. So code for violation type 4 need not compare references (a remark of proofs only: the meaning follows the Rust).
 use Prim.Native.Nat.{ℕ}
 use mathlib.Core.Path.{_≡_, refl, ap, ap₂}
 use mathlib.Core.Logic.{_⊎_, inl, inr}
 use mathlib.Core.List.{List, [], _∷_, _++_, List·Memᴰ, List·Memᴰ·head, List·Memᴰ·tail, List·Memᴰ·append-cases, List·Memᴰ·not-nil}
 use mathlib.Core.Bool.{Bool, true, false, not, _&&_, _||_, false≢true}
 use borrow.Author.Tests.{eq-eqb}
 use Rattle.meaning.specs.Tree.{Expr, literal, fieldRef, sizeof, alignof, binary, unary, Ty, primitive, typeRef, struct, union, enum, array, sizeUnion, Member, member, Members, more, Bundle}
 use Rattle.meaning.specs.Lists.{any, sameList}
 use Rattle.meaning.specs.References.{collectFieldReferencesRecursive, isConstant, collectFieldReferencesInTypeKind, referencesInMember, referencesInMembers}
 use Rattle.meaning.specs.Sizes.{typeSizeDependsOnFieldRefsRecursive, memberSizeDepends, someSizeDepends, namedSizeDepends}
 use Rattle.meaning.specs.Violations.{typeNeedsFieldRefForLayout}
+use Rattle.notes.specs.Notes.{isConstantArray}
 
 or-true : (x : Bool) {y : Bool} → y ≡ true → (x || y) ≡ true
 or-true true e = refl
@@ -75,16 +76,6 @@ sameList-refl (x ∷ xs) = rw (eq-eqb x x refl) (sameList-refl xs)
 any-mem : {A : Type 0} (p : A → Bool) {xs : List A} {x : A} → p x ≡ true → List·Memᴰ x xs → any p xs ≡ true
 any-mem p e (List·Memᴰ·head {x = y} q) = rw (← q, e)
 any-mem p e (List·Memᴰ·tail {x = y} m) = or-true (p y) (any-mem p e m)
-
--- the type is an array of constant size
-abbrev pub isConstantArray : Ty → Bool
-isConstantArray (primitive k) = false
-isConstantArray (typeRef n) = false
-isConstantArray (struct a ms) = false
-isConstantArray (union a ms) = false
-isConstantArray (enum a tag ms) = false
-isConstantArray (array a jagged size element) = isConstant size
-isConstantArray (sizeUnion a ms) = false
 
 pub needs-iff : (b : Bundle) (t : Ty) {path : List ℕ} → List·Memᴰ path (collectFieldReferencesInTypeKind t)
     → (namedSizeDepends b t || typeNeedsFieldRefForLayout t path) ≡ not (isConstantArray t)
