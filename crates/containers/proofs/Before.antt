@@ -13,7 +13,7 @@ use Rattle.meaning.specs.Tree.{Ty, primitive, typeRef, struct, union, enum, arr
 use Rattle.meaning.specs.Violations.{standsBefore, structOf}
 use Rattle.bundle.specs.Definitions.{typeAt, bundleOf, Table}
 use Rattle.fields.specs.Shapes.{DefinitionIs}
-use Rattle.fields.specs.Sought.{sought, lastShown}
+use Rattle.fields.specs.Sought.{refers, named, shown}
 use Rattle.fields.proofs.Lookups.{definition-placed, precedes-zero, precedes-shown}
 use Rattle.field_index.specs.Noted.{fieldsOf, fieldsAt, indexShown}
 use Rattle.containers.specs.Containers.{heldIn, isBefore}
@@ -44,8 +44,8 @@ before-zero s e x f {held} p z = go (holds isEnumWithConstantSizeVariants (findT
     go true q o g = rw q (and-false (holds (standsBefore e (f ∷ [])) (structOf (bundleOf s) x)))
     go false q none g = rw (q, g) refl
     go false q (some ms) g =
-        let zero : lastShown 0 0 (lastIndex (sought true e) ms) ≡ 0 = sym (p ∙ rw (q, g) refl) ∙ z in
-        rw (q, g) (precedes-zero (lastIndex (sought true e) ms) (lastIndex (sought false f) ms) zero ∙ and-true (standsBefore e (f ∷ []) ms))
+        let zero : shown (lastIndex (refers e) ms) ≡ 0 = sym (p ∙ rw (q, g) refl) ∙ z in
+        rw (q, g) (precedes-zero (lastIndex (refers e) ms) (lastIndex (named f) ms) zero ∙ and-true (standsBefore e (f ∷ []) ms))
 
 -- there is no such struct
 pub before-no : (s : List ℕ) (e x f : ℕ) → structOf (bundleOf s) x ≡ none → false ≡ isBefore (bundleOf s) e x f
@@ -67,7 +67,7 @@ before-shown {s} {n} {places} t {x} {i} d e f held r p nz q =
     go false k none g = absurd (nz (p ∙ rw (k, the-struct, g) refl))
     go false k (some ms) g =
         let same : fieldsAt s places i ≡ ms = the-fields (typeAt 24 s (getD places i 0)) ms g in
-        let h : held ≡ lastShown 0 0 (lastIndex (sought true e) ms) = p ∙ rw (k, the-struct, g) refl in
-        let m : r ≡ lastShown 0 0 (lastIndex (sought false f) ms) = q ∙ ap (indexShown true f) same in
+        let h : held ≡ shown (lastIndex (refers e) ms) = p ∙ rw (k, the-struct, g) refl in
+        let m : r ≡ shown (lastIndex (named f) ms) = q ∙ ap (indexShown true f) same in
         rw (k, the-struct, g)
-        (ap₂ ltb h m ∙ precedes-shown (lastIndex (sought true e) ms) (lastIndex (sought false f) ms) (λ z. nz (h ∙ z)) ∙ and-true (standsBefore e (f ∷ []) ms))
+        (ap₂ ltb h m ∙ precedes-shown (lastIndex (refers e) ms) (lastIndex (named f) ms) (λ z. nz (h ∙ z)) ∙ and-true (standsBefore e (f ∷ []) ms))

@@ -23,7 +23,7 @@ use Rattle.bundle.specs.Definitions.{typeAt, bundleOf, definitionAt, Table}
 use Rattle.bundle.proofs.LookupLaws.{from-place, placed-at}
 use Rattle.fields.specs.declared.Place.{Place}
 use Rattle.fields.specs.Shapes.{PlacedAt}
-use Rattle.fields.specs.Sought.{sought, lastShown}
+use Rattle.fields.specs.Sought.{refers, shown}
 use Rattle.field_index.specs.Noted.{leadShown, leadIs, fieldsAt}
 use Rattle.field_index.proofs.Order.{holds-fields}
 use Rattle.containers.specs.Containers.{LeadFor, holdsRef, containsAt}
@@ -42,32 +42,32 @@ module _ {s : List ℕ} {e x : ℕ} (l : LeadFor s e x) where
           let at : definitionOf (bundleOf s) y ≡ definitionOf (bundleOf s) e = omega (arith, q, l .number) in
           sym (same-name (map (λ d. d .name) (bundleOf s .definitions)) y e at (omega (arith, l .defined, length-map (bundleOf s .definitions) (λ d. d .name))))
 
-  pub last-held : (ms : List Member) → lastIndex (leadIs (bundleOf s) x) ms ≡ lastIndex (sought true e) ms
+  pub last-held : (ms : List Member) → lastIndex (leadIs (bundleOf s) x) ms ≡ lastIndex (refers e) ms
   last-held [] = refl
   last-held (m ∷ ms) = rw (last-held ms, lead-refers (asTypeRef (memberType m))) refl
 
 -- some element passes exactly where there is a last one that does
-any-last : {A : Type 0} (p : A → Bool) (xs : List A) → any p xs ≡ ltb 0 (lastShown 0 0 (lastIndex p xs))
+any-last : {A : Type 0} (p : A → Bool) (xs : List A) → any p xs ≡ ltb 0 (shown (lastIndex p xs))
 any-last p [] = refl
 any-last p (x ∷ xs) = go (p x) (any p xs) (lastIndex p xs) (any-last p xs)
   where
-    go : (t u : Bool) (o : Option ℕ) → u ≡ ltb 0 (lastShown 0 0 o) → (t || u) ≡ ltb 0 (lastShown 0 0 (orElse (Option·map suc o) (cond t (some 0) nothing)))
+    go : (t u : Bool) (o : Option ℕ) → u ≡ ltb 0 (shown o) → (t || u) ≡ ltb 0 (shown (orElse (Option·map suc o) (cond t (some 0) nothing)))
     go true u nothing e = refl
-    go true u (some i) e = sym (lt-ltb 0 (suc (suc i + 0)) (omega arith))
+    go true u (some i) e = sym (lt-ltb 0 (suc (suc i)) (omega arith))
     go false u nothing e = e
-    go false u (some i) e = e ∙ lt-ltb 0 (suc (i + 0)) (omega arith) ∙ sym (lt-ltb 0 (suc (suc i + 0)) (omega arith))
+    go false u (some i) e = e ∙ lt-ltb 0 (suc i) (omega arith) ∙ sym (lt-ltb 0 (suc (suc i)) (omega arith))
 
 -- definition i, whose last field that leads to the enum is known
 module _ {s places : List ℕ} {i e x y : ℕ} (l : LeadFor s e x) {p : Place} (g : PlacedAt s places i p) where
   pub contains-not : (p .name ≡ y → ⊥) → false ≡ containsAt s places i e y
   contains-not ne = rw (← g .name, ne-eqb (p .name) y ne) refl
 
-  pub contains-is : p .name ≡ y → {r : ℕ} → r ≡ lastShown 0 0 (lastIndex (leadIs (bundleOf s) x) (fieldsAt s places i)) → ltb 0 r ≡ containsAt s places i e y
+  pub contains-is : p .name ≡ y → {r : ℕ} → r ≡ shown (lastIndex (leadIs (bundleOf s) x) (fieldsAt s places i)) → ltb 0 r ≡ containsAt s places i e y
   contains-is q {r} h =
       rw (← g .name, eq-eqb (p .name) y q)
-      (ap (ltb 0) (h ∙ ap (lastShown 0 0) (last-held l (fieldsAt s places i)))
-      ∙ sym (any-last (sought true e) (fieldsAt s places i))
-      ∙ sym (holds-fields (any (sought true e)) refl (typeAt 24 s (getD places i 0))))
+      (ap (ltb 0) (h ∙ ap shown (last-held l (fieldsAt s places i)))
+      ∙ sym (any-last (refers e) (fieldsAt s places i))
+      ∙ sym (holds-fields (any (refers e)) refl (typeAt 24 s (getD places i 0))))
 
 -- the definition is a struct of the name x with a field that is a TypeRef to e
 abbrev contains : ℕ → ℕ → Definition → Bool

@@ -13,7 +13,7 @@ use Rattle.meaning.specs.Tree.{Ty, primitive, typeRef, struct, union, enum, arr
 use Rattle.meaning.specs.Violations.{isEnumReferencingSameContainerStruct, structOf}
 use Rattle.bundle.specs.Definitions.{typeAt, bundleOf, Table}
 use Rattle.fields.specs.Shapes.{DefinitionIs}
-use Rattle.fields.specs.Sought.{sought, lastShown}
+use Rattle.fields.specs.Sought.{refers, shown}
 use Rattle.fields.proofs.Lookups.{definition-placed}
 use Rattle.field_index.specs.Noted.{leadIs, fieldsOf, fieldsAt}
 use Rattle.containers.specs.Containers.{LeadFor, lastHeld, heldIn, containerShown}
@@ -28,12 +28,12 @@ module _ (s : List ℕ) (e x : ℕ) where
     held-none g = rw (← c, g) refl
 
     pub held-last : {n : ℕ} {places : List ℕ} → Table s n places → {i at y r : ℕ} → DefinitionIs s n x i at → LeadFor s e y
-        → r ≡ lastShown 0 0 (lastIndex (leadIs (bundleOf s) y) (fieldsAt s places i)) → r ≡ heldIn (bundleOf s) e x
+        → r ≡ shown (lastIndex (leadIs (bundleOf s) y) (fieldsAt s places i)) → r ≡ heldIn (bundleOf s) e x
     unfolding structOf
     held-last {places = places} t {i} {y = y} d l p =
-        p ∙ ap (lastShown 0 0) (last-held l (fieldsAt s places i)) ∙ rw (← c, definition-placed t d .is) (go (typeAt 24 s (getD places i 0)))
+        p ∙ ap shown (last-held l (fieldsAt s places i)) ∙ rw (← c, definition-placed t d .is) (go (typeAt 24 s (getD places i 0)))
       where
-        go : (t : Ty) → lastShown 0 0 (lastIndex (sought true e) (fieldsOf t)) ≡ lastHeld e (asStruct t)
+        go : (t : Ty) → shown (lastIndex (refers e) (fieldsOf t)) ≡ lastHeld e (asStruct t)
         go (primitive k) = refl
         go (typeRef n) = refl
         go (struct a ms) = refl

@@ -14,7 +14,7 @@ use Rattle.meaning.specs.Tree.{Ty, Member, Bundle}
 use Rattle.meaning.specs.Violations.{isEnumReferencingSameContainerStruct, standsBefore, structOf}
 use Rattle.meaning.specs.Reader.{little}
 use Rattle.bundle.specs.Definitions.{typeAt, bundleOf}
-use Rattle.fields.specs.Sought.{sought, lastShown}
+use Rattle.fields.specs.Sought.{refers, shown}
 
 -- the name e is defined, and x is one more than the number of its first definition
 pub record LeadFor (s : List ℕ) (e x : ℕ) : Type 0 where
@@ -32,7 +32,7 @@ containsAt s places i e x = eqb (little s (getD places i 0 - 2) 2) x && holdsRef
 -- one more than the index of the last of a struct's fields that is a TypeRef to e, and 0 where there is none
 abbrev pub lastHeld : ℕ → Option (List Member) → ℕ
 lastHeld e none = 0
-lastHeld e (some ms) = lastShown 0 0 (lastIndex (sought true e) ms)
+lastHeld e (some ms) = shown (lastIndex (refers e) ms)
 
 -- the same of the first definition of the name x, if that is a struct, and 0 too where the variants of e are of constant size
 abbrev pub heldIn : Bundle → ℕ → ℕ → ℕ
@@ -51,8 +51,8 @@ abbrev pub markOf : Bool → ℕ
 markOf true = 2
 markOf false = 1
 
--- the name e is defined; `known` has the answers of the enum e, for names by their first definitions, and 0 where one is not known yet; behind them it has whether
--- the variants of e are of constant size, 1 for no and 2 for yes
+-- the name e is defined; `known` has the answers of the enum e, for names by their first definitions, and 0 where one is not known yet; behind
+-- them it has whether the variants of e are of constant size, 1 for no and 2 for yes
 pub record Known (s : List ℕ) (e : ℕ) (known : List ℕ) : Type 0 where
   pub size : length known ≡ definitionLimit + 1
   pub defined : definitionOf (bundleOf s) e < length (bundleOf s .definitions)

@@ -8,7 +8,7 @@ ghost use Rattle.meaning.specs.Lookup.{findType};
 ghost use Rattle.meaning.specs.Sizes.{isEnumWithConstantSizeVariants};
 ghost use Rattle.meaning.specs.Violations.{isEnumReferencingSameContainerStruct};
 ghost use Rattle.bundle.specs.Definitions.{bundleOf, Table};
-ghost use Rattle.field_index.specs.Noted.{Noted};
+ghost use Rattle.field_index.specs.Noted.{FieldsNoted};
 ghost use Rattle.containers.specs.Containers.{LeadFor, containsAt, heldIn, containerShown, isBefore, markOf, Known};
 
 // Answers that are kept: one for each definition's name, and one for the enum.
@@ -40,7 +40,7 @@ fn is_constant(s: &[u8], places: &[u16], count: usize, known: &mut [u16; KNOWN],
 
 // Whether definition `i` has the name `container` and is a struct with a field that leads where `lead` says.
 fn contains(s: &[u8], places: &[u16], count: usize, i: usize, lead: usize, container: u16) -> bool
-    requires { ⌜ Table (now s) count (now places) × Noted (now s) (now places) count × (i < count) ⌝ }
+    requires { ⌜ Table (now s) count (now places) × FieldsNoted (now s) (now places) count × (i < count) ⌝ }
     ensures { λ r. ⌜ ((e : ℕ) → LeadFor (now (s .entry)) e lead → r ≡ containsAt (now (s .entry)) (now (places .entry)) i e container) ⌝ }
 {
     let place = fields::place_of(s, places, count, i);
@@ -59,7 +59,7 @@ fn is_enum_referencing_same_container_struct(
     lead: usize,
     container: u16,
 ) -> bool
-    requires { ⌜ Table (now s) count (now places) × Noted (now s) (now places) count ⌝ }
+    requires { ⌜ Table (now s) count (now places) × FieldsNoted (now s) (now places) count ⌝ }
     ensures { λ r. ⌜ ((e : ℕ) → LeadFor (now (s .entry)) e lead → r ≡ isEnumReferencingSameContainerStruct (bundleOf (now (s .entry))) e container) ⌝ }
 {
     let mut i = lookup::definition_of(s, places, count, container);
@@ -83,7 +83,7 @@ fn held_in(
     lead: usize,
     container: u16,
 ) -> usize
-    requires { ⌜ Table (now s) count (now places) × Noted (now s) (now places) count × (length (now s) ≤ 32768) × Known (now s) name (now known) × LeadFor (now s) name lead ⌝ }
+    requires { ⌜ Table (now s) count (now places) × FieldsNoted (now s) (now places) count × (length (now s) ≤ 32768) × Known (now s) name (now known) × LeadFor (now s) name lead ⌝ }
     ensures { λ r. ⌜ (r ≡ heldIn (bundleOf (now (s .entry))) name container) × (r ≤ 32768) × Known (now (s .entry)) name (now (known .exit)) ⌝ }
 {
     if is_constant(s, places, count, known, name) {
@@ -105,7 +105,7 @@ fn answer_for(
     name: u16,
     container: u16,
 ) -> usize
-    requires { ⌜ Table (now s) count (now places) × Noted (now s) (now places) count × (length (now s) ≤ 32768) × Known (now s) name (now known) ⌝ }
+    requires { ⌜ Table (now s) count (now places) × FieldsNoted (now s) (now places) count × (length (now s) ≤ 32768) × Known (now s) name (now known) ⌝ }
     ensures { λ r. ⌜ (r ≡ containerShown (bundleOf (now (s .entry))) name container) × (0 < r) × (r ≤ 32770) × Known (now (s .entry)) name (now (known .exit)) ⌝ }
 {
     let lead = lookup::definition_of(s, places, count, name) + 1;
@@ -131,7 +131,7 @@ pub fn container_of(
     name: u16,
     container: u16,
 ) -> usize
-    requires { ⌜ Table (now s) count (now places) × Noted (now s) (now places) count × (length (now s) ≤ 32768) × Known (now s) name (now known) ⌝ }
+    requires { ⌜ Table (now s) count (now places) × FieldsNoted (now s) (now places) count × (length (now s) ≤ 32768) × Known (now s) name (now known) ⌝ }
     ensures { λ r. ⌜ (r ≡ containerShown (bundleOf (now (s .entry))) name container) × (0 < r) × Known (now (s .entry)) name (now (known .exit)) ⌝ }
 {
     let i = lookup::definition_of(s, places, count, container);
@@ -147,8 +147,8 @@ pub fn container_of(
     answer
 }
 
-// Whether in the first definition of the name `container`, if that is a struct the last field that is a TypeRef to the enum stands before the last that is called
-// `field`, and the enum's variants are not of constant size; `held` is what the answer for the name says.
+// Whether in the first definition of the name `container`, if that is a struct, the last field that is a TypeRef to the enum stands before
+// the last that is called `field`, and the enum's variants are not of constant size; `held` is what the answer for the name says.
 pub fn stands_before(
     s: &[u8],
     places: &[u16],
@@ -157,7 +157,7 @@ pub fn stands_before(
     container: u16,
     field: u16,
 ) -> bool
-    requires { ⌜ Table (now s) count (now places) × Noted (now s) (now places) count ⌝ }
+    requires { ⌜ Table (now s) count (now places) × FieldsNoted (now s) (now places) count ⌝ }
     ensures { λ r. ⌜ ((e : ℕ) → held ≡ heldIn (bundleOf (now (s .entry))) e container → r ≡ isBefore (bundleOf (now (s .entry))) e container field) ⌝ }
 {
     if held == 0 {

@@ -9,7 +9,7 @@ use Rattle.meaning.specs.Lists.{holds}
 use Rattle.meaning.specs.Lookup.{asStruct}
 use Rattle.meaning.specs.Tree.{Ty, primitive, typeRef, struct, union, enum, array, sizeUnion, Member}
 use Rattle.bundle.specs.Definitions.{Table}
-use Rattle.field_index.specs.Noted.{startsAt, fieldsOf, Noted}
+use Rattle.field_index.specs.Noted.{startsAt, fieldsOf, FieldsNoted}
 
 -- a test that no empty list passes, of the fields of a struct
 pub holds-fields : (f : List Member → Bool) → f [] ≡ false → (t : Ty) → holds f (asStruct t) ≡ f (fieldsOf t)
@@ -22,5 +22,5 @@ holds-fields f e (array a jagged size element) = sym e
 holds-fields f e (sizeUnion a ms) = sym e
 
 -- the place of a definition among those noted
-pub noted-there : {s places : List ℕ} {n i : ℕ} → Table s n places → Noted s places n → i < n → startsAt + i < length places
+pub noted-there : {s places : List ℕ} {n i : ℕ} → Table s n places → FieldsNoted s places n → i < n → startsAt + i < length places
 noted-there t o l = omega (arith, o .size, t .count, t .placed .room)

@@ -18,8 +18,8 @@ use Rattle.meaning.specs.Lists.{firstIndex, lastIndex}
 use Rattle.meaning.specs.Lookup.{memberName, memberType, asTypeRef}
 use Rattle.bundle.specs.Definitions.{bundleOf}
 use Rattle.table.specs.Table.{Members, PlaceOf}
-use Rattle.fields.specs.Sought.{sought, lastShown}
-use Rattle.field_index.specs.Noted.{nameAt, tableAt, Part, NotedFor, indexShown, leadShown, leadsOf, leadIs, leadsAt, LeadsTo, LastIn, partOf, fieldsAt, Noted}
+use Rattle.fields.specs.Sought.{named, shown}
+use Rattle.field_index.specs.Noted.{nameAt, tableAt, Part, NotedFor, indexShown, leadShown, leadsOf, leadIs, leadsAt, LeadsTo, LastIn, partOf, fieldsAt, FieldsNoted}
 
 -- no field has the name
 abbrev Lacks : List Member → ℕ → Type 0
@@ -44,18 +44,18 @@ module _ (x : ℕ) where
   lacks-rest : (m : Member) (ms : List Member) → Lacks (m ∷ ms) x → Lacks ms x
   lacks-rest m ms lacks i l = lacks (suc i) (suc-le-suc l)
 
-  first-none : (ms : List Member) → Lacks ms x → firstIndex (sought false x) ms ≡ none
+  first-none : (ms : List Member) → Lacks ms x → firstIndex (named x) ms ≡ none
   first-none [] lacks = refl
   first-none (m ∷ ms) lacks = rw (ne-eqb x (memberName m) (λ e. lacks 0 (omega arith) (sym e)), first-none ms (lacks-rest m ms lacks)) refl
 
-  first-at : (ms : List Member) (f : ℕ) → f < length ms → nameAt ms f ≡ x → ((i : ℕ) → i < f → nameAt ms i ≡ x → ⊥) → firstIndex (sought false x) ms ≡ some f
+  first-at : (ms : List Member) (f : ℕ) → f < length ms → nameAt ms f ≡ x → ((i : ℕ) → i < f → nameAt ms i ≡ x → ⊥) → firstIndex (named x) ms ≡ some f
   first-at [] f l e lacks = absurd (omega arith)
   first-at (m ∷ ms) zero l e lacks = rw (eq-eqb x (memberName m) (sym e)) refl
   first-at (m ∷ ms) (suc f) l e lacks =
       rw (ne-eqb x (memberName m) (λ q. lacks 0 (omega arith) (sym q)), first-at ms f (omega arith) e (λ i c. lacks (suc i) (suc-le-suc c))) refl
 
   shown-lacks : (last : Bool) (ms : List Member) → Lacks ms x → 0 ≡ indexShown last x ms
-  shown-lacks true ms lacks = ap (lastShown 0 0) (sym (last-none memberName x ms lacks))
+  shown-lacks true ms lacks = ap shown (sym (last-none memberName x ms lacks))
   shown-lacks false ms lacks = rw (first-none ms lacks) refl
 
 -- a definition without a part
@@ -79,19 +79,19 @@ module _ {notes : List ℕ} {a n d r : ℕ} (x : ℕ) (ms : List Member) (p : Pa
       subst-name k = ap (λ n. getD notes (tableAt a n + n + 2 * k) 0) (sym the-count)
 
   module _ (l : r < d) where
-    named : getD notes (tableAt a (length ms) + length ms + 2 * r) 0 ≡ x
-    named = ap (λ n. getD notes (tableAt a n + n + 2 * r) 0) the-count ∙ q .here l
+    is-named : getD notes (tableAt a (length ms) + length ms + 2 * r) 0 ≡ x
+    is-named = ap (λ n. getD notes (tableAt a n + n + 2 * r) 0) the-count ∙ q .here l
 
     shown-first : getD notes (a + 2 + r) 0 + 1 ≡ indexShown false x ms
     shown-first =
         let f = p .all .firsts r (omega (arith, names)) in
-        rw (first-at x ms (getD notes (a + 2 + r) 0) (f .below) (f .here ∙ named) (λ i c e. f .none i c (e ∙ sym named))) (omega arith)
+        rw (first-at x ms (getD notes (a + 2 + r) 0) (f .below) (f .here ∙ is-named) (λ i c e. f .none i c (e ∙ sym is-named))) (omega arith)
 
     shown-last : getD notes (a + 2 + n + r) 0 + 1 ≡ indexShown true x ms
     shown-last =
         let f = p .all .lasts r (omega (arith, names)) in
         rw (← the-count)
-        (rw (last-at memberName x ms (getD notes (a + 2 + length ms + r) 0) (f .below) (f .here ∙ named) (λ i c k e. f .none i c k (e ∙ sym named))) (omega arith))
+        (rw (last-at memberName x ms (getD notes (a + 2 + length ms + r) 0) (f .below) (f .here ∙ is-named) (λ i c k e. f .none i c k (e ∙ sym is-named))) (omega arith))
 
     pub shown-at : (last : Bool) → getD notes (cond last (a + 2 + n + r) (a + 2 + r)) 0 + 1 ≡ indexShown last x ms
     shown-at true = shown-last
@@ -114,16 +114,16 @@ module _ (t : List ℕ) (at n x k : ℕ) (c : 0 < k) (o : LacksFrom t at n x k) 
 
 -- the last field that leads where x says
 pub last-shown : (b : Bundle) {notes : List ℕ} (a x : ℕ) {r : ℕ} (ms : List Member) → LeadsTo (leadsOf b ms) notes a (length ms) (length ms) → LastIn notes (leadsAt a (length ms)) (length ms) x r
-    → r ≡ lastShown 0 0 (lastIndex (leadIs b x) ms)
+    → r ≡ shown (lastIndex (leadIs b x) ms)
 last-shown b {notes} a x {r} ms leads l =
     by-cases (decLt 0 r)
     (λ (c : 0 < r).
     let k : r - 1 < length ms = omega (arith, l .within) in
-    let shown : r ≡ lastShown 0 0 (some (r - 1)) = omega arith in
-    shown ∙ ap (lastShown 0 0) (sym (last-at lead x ms (r - 1) k (sym (leads (r - 1) k) ∙ l .here c) (λ i d m e. l .none i (omega arith) m (leads i m ∙ e)))))
+    let same : r ≡ shown (some (r - 1)) = omega arith in
+    same ∙ ap shown (sym (last-at lead x ms (r - 1) k (sym (leads (r - 1) k) ∙ l .here c) (λ i d m e. l .none i (omega arith) m (leads i m ∙ e)))))
     (λ (c : ¬ (0 < r)).
-    let shown : r ≡ 0 = omega arith in
-    shown ∙ ap (lastShown 0 0) (sym (last-none lead x ms (λ i m e. l .none i (omega arith) m (leads i m ∙ e)))))
+    let same : r ≡ 0 = omega arith in
+    same ∙ ap shown (sym (last-none lead x ms (λ i m e. l .none i (omega arith) m (leads i m ∙ e)))))
   where
     lead : Member → ℕ
     lead m = leadShown b (asTypeRef (memberType m))
@@ -136,12 +136,12 @@ pub part-table : {ms : List Member} {notes : List ℕ} {a : ℕ} → Part ms not
 part-table {notes = notes} {a = a} p = subst (λ n. Members notes (tableAt a n) n (getD notes (a + 1) 0)) (sym (p .count)) (p .all .table)
 
 -- the last field of definition i that leads where x says
-module _ {s places : List ℕ} {n i : ℕ} (o : Noted s places n) (l : i < n) (x : ℕ) where
-  pub lead-no-part : partOf places i ≡ 0 → 0 ≡ lastShown 0 0 (lastIndex (leadIs (bundleOf s) x) (fieldsAt s places i))
+module _ {s places : List ℕ} {n i : ℕ} (o : FieldsNoted s places n) (l : i < n) (x : ℕ) where
+  pub lead-no-part : partOf places i ≡ 0 → 0 ≡ shown (lastIndex (leadIs (bundleOf s) x) (fieldsAt s places i))
   lead-no-part z = rw (o .each i l .none z) refl
 
   pub lead-part : 0 < partOf places i → {r : ℕ} → LastIn places (leadsAt (partOf places i) (getD places (partOf places i) 0)) (getD places (partOf places i) 0) x r
-      → r ≡ lastShown 0 0 (lastIndex (leadIs (bundleOf s) x) (fieldsAt s places i))
+      → r ≡ shown (lastIndex (leadIs (bundleOf s) x) (fieldsAt s places i))
   lead-part c {r} q =
       last-shown (bundleOf s) (partOf places i) x (fieldsAt s places i) (o .leads i l c)
       (subst (λ k. LastIn places (leadsAt (partOf places i) k) k x r) (o .each i l .part c .count) q)

@@ -27,7 +27,7 @@ use Rattle.fields.proofs.Shape.{the-type}
 use Rattle.fields.proofs.ShapeLaws.{shape-other}
 use Rattle.fields.specs.Shapes.{StructAt, ShapeOf}
 use Rattle.table.specs.Table.{Within}
-use Rattle.field_index.specs.Noted.{startsAt, partsAt, partOf, Part, NotedFor, leadsOf, LeadsTo, fieldsOf, fieldsAt, referencesOf, referencesTo, endOf, NotedBelow, Behind}
+use Rattle.field_index.specs.Noted.{startsAt, partsAt, partOf, Part, NotedFor, leadsOf, LeadsTo, fieldsOf, fieldsAt, referencesOf, referencesTo, endBefore, NotedBelow, Front}
 use Rattle.field_index.proofs.Noting.{members-same}
 use Rattle.field_index.proofs.Walking.{fields, for-same, leads-same}
 use Rattle.field_index.proofs.Widths.{place-next, struct-wide}
@@ -54,12 +54,14 @@ struct-empty at s {n} g z = struct-fields at s g ∙ ap listOf (members-none 23 
 pub below-start : {s : List ℕ} (places : List ℕ) → length s ≤ 32768 → 2 * partsAt + 3 * length s + 9 ≤ 2 * length places → NotedBelow s places 0 partsAt
 below-start places short size =
     record {
-      noted = record { size = omega arith; each = λ i l. absurd (omega arith); leads = λ i l _. absurd (omega arith); few = λ i l. absurd (omega arith) };
-      from = omega arith;
+      below = record {
+        noted = record { size = omega arith; each = λ i l. absurd (omega arith); leads = λ i l _. absurd (omega arith); few = λ i l. absurd (omega arith) };
+        from = omega arith;
+        parts = λ i l _. absurd (omega arith);
+      };
       room = omega arith;
       size = size;
       short = short;
-      parts = λ i l _. absurd (omega arith);
     }
 
 module _ {s : List ℕ} {count : ℕ} {places : List ℕ} (t : Table s count places) {i : ℕ} (l : i < count) {used : ℕ} (o : NotedBelow s places i used) where
@@ -69,7 +71,7 @@ module _ {s : List ℕ} {count : ℕ} {places : List ℕ} (t : Table s count pla
   so-far : 2 * used + 6 * referencesTo s places i ≤ 2 * partsAt + 3 * getD places i 0
   so-far = omega (arith, o .room, ended i)
     where
-      ended : (i : ℕ) → endOf places i ≤ getD places i 0
+      ended : (i : ℕ) → endBefore places i ≤ getD places i 0
       ended zero = omega arith
       ended (suc i) = omega arith
 
@@ -82,7 +84,7 @@ module _ {s : List ℕ} {count : ℕ} {places : List ℕ} (t : Table s count pla
   -- the places before those used stay, but for where the part of definition i starts
   module _ (u : List ℕ) (long : length u ≡ length places) (same : (j : ℕ) → j < used → (j ≡ startsAt + i → ⊥) → getD u j 0 ≡ getD places j 0) where
     below : (j : ℕ) → j < startsAt → getD u j 0 ≡ getD places j 0
-    below j c = same j (omega (arith, o .from)) (λ z. omega (arith, z))
+    below j c = same j (omega (arith, o .below .from)) (λ z. omega (arith, z))
 
     fields-stay : (j : ℕ) → j < startsAt → fieldsAt s u j ≡ fieldsAt s places j
     fields-stay j c = ap (λ a. fieldsOf (typeAt 24 s a)) (below j c)
@@ -96,58 +98,60 @@ module _ {s : List ℕ} {count : ℕ} {places : List ℕ} (t : Table s count pla
 
     -- a part before those used, and what is in it
     part-stays : (j : ℕ) → j < i → partOf u j ≡ partOf places j
-    part-stays j c = same (startsAt + j) (omega (arith, few, o .from)) (λ z. omega (arith, z))
+    part-stays j c = same (startsAt + j) (omega (arith, few, o .below .from)) (λ z. omega (arith, z))
 
     inside-stays : (j : ℕ) → j < i → 0 < partOf places j → (k : ℕ) → partOf places j ≤ k → k < partOf places j + 2 + 6 * length (fieldsAt s places j) → getD u k 0 ≡ getD places k 0
-    inside-stays j c a k b d = let q = o .parts j c a in same k (omega (arith, q .1)) (λ z. omega (arith, z, few, q .0))
+    inside-stays j c a k b d = let q = o .below .parts j c a in same k (omega (arith, q .1)) (λ z. omega (arith, z, few, q .0))
 
     kept : (j : ℕ) → j < i → NotedFor (fieldsAt s u j) u (partOf u j)
-    kept j c = rw (fields-stay j (omega (arith, few)), part-stays j c) (for-same (fieldsAt s places j) places u (partOf places j) (inside-stays j c) (omega (arith, long)) (o .noted .each j c))
+    kept j c = rw (fields-stay j (omega (arith, few)), part-stays j c) (for-same (fieldsAt s places j) places u (partOf places j) (inside-stays j c) (omega (arith, long)) (o .below .noted .each j c))
 
     leads-kept : (j : ℕ) → j < i → 0 < partOf u j → LeadsTo (leadsOf (bundleOf s) (fieldsAt s u j)) u (partOf u j) (length (fieldsAt s u j)) (length (fieldsAt s u j))
-    leads-kept j c = rw (fields-stay j (omega (arith, few)), part-stays j c) (leads-same (fieldsAt s places j) places u (partOf places j) (inside-stays j c) (leadsOf (bundleOf s) (fieldsAt s places j)) (o .noted .leads j c))
+    leads-kept j c = rw (fields-stay j (omega (arith, few)), part-stays j c) (leads-same (fieldsAt s places j) places u (partOf places j) (inside-stays j c) (leadsOf (bundleOf s) (fieldsAt s places j)) (o .below .noted .leads j c))
 
     -- the fields of definition i are noted up to a place
     pub below-next : {used′ : ℕ} → NotedFor (fieldsAt s places i) u (partOf u i)
         → (0 < partOf u i → LeadsTo (leadsOf (bundleOf s) (fieldsAt s places i)) u (partOf u i) (length (fieldsAt s places i)) (length (fieldsAt s places i)))
         → 4 * length (fieldsAt s places i) ≤ length s → used ≤ used′ → 2 * used′ + 6 * (referencesTo s places i + length (referencesOf s places i)) ≤ 2 * partsAt + 3 * getD places (i + 1) 0
         → (0 < partOf u i → (partsAt ≤ partOf u i) × (partOf u i + 2 + 6 * length (fieldsAt s places i) ≤ used′))
-        → NotedBelow s u (i + 1) used′ × Behind places u
+        → NotedBelow s u (i + 1) used′ × Front places u
     below-next {used′} here leads small more room part = (
       record {
-        noted = record {
-          size = omega (arith, long, o .noted .size);
-          each = λ j c.
-              by-cases (decLt j i) (kept j)
-              (λ (n : ¬ (j < i)). let z : j ≡ i = omega arith in rw (z, fields-stay i (omega (arith, few))) here);
-          leads = λ j c.
-              by-cases (decLt j i) (leads-kept j)
-              (λ (n : ¬ (j < i)). let z : j ≡ i = omega arith in rw (z, fields-stay i (omega (arith, few))) leads);
-          few = λ j c.
-              rw (fields-stay j (omega (arith, few)))
-              (by-cases (decLt j i) (o .noted .few j) (λ (n : ¬ (j < i)). let z : j ≡ i = omega arith in rw z small));
+        below = record {
+          noted = record {
+            size = omega (arith, long, o .below .noted .size);
+            each = λ j c.
+                by-cases (decLt j i) (kept j)
+                (λ (n : ¬ (j < i)). let z : j ≡ i = omega arith in rw (z, fields-stay i (omega (arith, few))) here);
+            leads = λ j c.
+                by-cases (decLt j i) (leads-kept j)
+                (λ (n : ¬ (j < i)). let z : j ≡ i = omega arith in rw (z, fields-stay i (omega (arith, few))) leads);
+            few = λ j c.
+                rw (fields-stay j (omega (arith, few)))
+                (by-cases (decLt j i) (o .below .noted .few j) (λ (n : ¬ (j < i)). let z : j ≡ i = omega arith in rw z small));
+          };
+          from = omega (arith, o .below .from);
+          parts = λ j c.
+              by-cases (decLt j i)
+              (λ (b : j < i). λ a.
+              let e = part-stays j b in
+              let q = o .below .parts j b (omega (arith, a, e)) in
+              (omega (arith, q .0, e), rw (fields-stay j (omega (arith, few))) (omega (arith, q .1, e))))
+              (λ (b : ¬ (j < i)). let z : j ≡ i = omega arith in rw (z, fields-stay i (omega (arith, few))) part);
         };
-        from = omega (arith, o .from);
         room =
             let next : i + 1 ≡ suc i = omega arith in
-            omega (arith, room, below (i + 1) (omega (arith, few)), ap (endOf u) next, ap (λ n. getD u n 0) next, ap (referencesTo s u) next, references-stay (suc i) (omega (arith, few)));
+            omega (arith, room, below (i + 1) (omega (arith, few)), ap (endBefore u) next, ap (λ n. getD u n 0) next, ap (referencesTo s u) next, references-stay (suc i) (omega (arith, few)));
         size = omega (arith, long, o .size);
         short = o .short;
-        parts = λ j c.
-            by-cases (decLt j i)
-            (λ (b : j < i). λ a.
-            let e = part-stays j b in
-            let q = o .parts j b (omega (arith, a, e)) in
-            (omega (arith, q .0, e), rw (fields-stay j (omega (arith, few))) (omega (arith, q .1, e))))
-            (λ (b : ¬ (j < i)). let z : j ≡ i = omega arith in rw (z, fields-stay i (omega (arith, few))) part);
       },
       record { size = long; same = below },
     )
 
   -- the definition has no fields
-  pub below-none : fieldsAt s places i ≡ [] → NotedBelow s (set places (startsAt + i) 0) (i + 1) used × Behind places (set places (startsAt + i) 0)
+  pub below-none : fieldsAt s places i ≡ [] → NotedBelow s (set places (startsAt + i) 0) (i + 1) used × Front places (set places (startsAt + i) 0)
   below-none e =
-      let there : startsAt + i < length places = omega (arith, few, o .noted .size) in
+      let there : startsAt + i < length places = omega (arith, few, o .below .noted .size) in
       let here : getD (set places (startsAt + i) 0) (startsAt + i) 0 ≡ 0 = getD-set-same places (startsAt + i) 0 0 there in
       below-next (set places (startsAt + i) 0) (length-set places (startsAt + i) 0) (λ j c ne. getD-set-other places (startsAt + i) j 0 0 ne)
       (rw here (record { none = λ _. e; part = λ c. absurd (omega arith) })) (λ c. absurd (omega (arith, here, c)))
@@ -156,19 +160,19 @@ module _ {s : List ℕ} {count : ℕ} {places : List ℕ} (t : Table s count pla
   -- it is a struct with n fields, noted behind the other parts
   pub below-struct : {n : ℕ} {u : List ℕ} → StructAt 24 s (getD places i 0) n → Part (fields s (getD places i 0 + 12) n) u used
       → LeadsTo (leadsOf (bundleOf s) (fields s (getD places i 0 + 12) n)) u used n n
-      → Within used (used + 2 + 6 * n) (set (set places (startsAt + i) 0) (startsAt + i) used) u → NotedBelow s u (i + 1) (used + 2 + 6 * n) × Behind places u
+      → Within used (used + 2 + 6 * n) (set (set places (startsAt + i) 0) (startsAt + i) used) u → NotedBelow s u (i + 1) (used + 2 + 6 * n) × Front places u
   below-struct {n} {u} g p leads w =
       let k = startsAt + i in
-      let there : k < length places = omega (arith, few, o .noted .size) in
+      let there : k < length places = omega (arith, few, o .below .noted .size) in
       let long : length u ≡ length places = w .size ∙ length-set (set places k 0) k used ∙ length-set places k 0 in
-      let here : getD u k 0 ≡ used = w .before k (omega (arith, few, o .from)) ∙ getD-set-same (set places k 0) k used 0 (omega (arith, there, length-set places k 0)) in
+      let here : getD u k 0 ≡ used = w .before k (omega (arith, few, o .below .from)) ∙ getD-set-same (set places k 0) k used 0 (omega (arith, there, length-set places k 0)) in
       let is : fieldsAt s places i ≡ fields s (getD places i 0 + 12) n = struct-fields (getD places i 0) s g in
       let count : length (fields s (getD places i 0 + 12) n) ≡ n = members-length 23 0x50 s n (getD places i 0 + 12) (g .reads) in
       below-next u long
       (λ j c ne. w .before j c ∙ getD-set-other (set places k 0) k j used 0 ne ∙ getD-set-other places k j 0 0 ne)
-      (rw (here, is) (record { none = λ z. absurd (omega (arith, z, o .from)); part = λ _. p })) (λ _. rw (here, is, count) leads)
+      (rw (here, is) (record { none = λ z. absurd (omega (arith, z, o .below .from)); part = λ _. p })) (λ _. rw (here, is, count) leads)
       (omega (arith, ap length is, count, struct-wide t l g .1)) (omega arith) (omega (arith, so-far, struct-wide t l g .0))
-      (λ _. rw (here, is, count) (o .from, omega arith))
+      (λ _. rw (here, is, count) (o .below .from, omega arith))
 
 pub below-end : {s places : List ℕ} {n i used : ℕ} → i ≡ n → NotedBelow s places i used → NotedBelow s places n used
 below-end {s} {places} {used = used} e o = subst (λ k. NotedBelow s places k used) e o
@@ -178,7 +182,7 @@ pub below-room : {s : List ℕ} {n : ℕ} {places : List ℕ} {used : ℕ} → T
     → (used + 3 * referencesTo s places n ≤ length places) × (used + 3 * referencesTo s places n < 65536)
 below-room {s} {n} {places} t o = (omega (arith, o .room, ended n (omega arith), o .size), omega (arith, o .room, ended n (omega arith), o .short))
   where
-    ended : (m : ℕ) → m ≤ n → endOf places m ≤ length s + 3
+    ended : (m : ℕ) → m ≤ n → endBefore places m ≤ length s + 3
     ended zero l = omega arith
     ended (suc m) l =
         let next : m + 1 ≡ suc m = omega arith in
@@ -186,7 +190,7 @@ below-room {s} {n} {places} t o = (omega (arith, o .room, ended n (omega arith),
         omega (arith, e .0, ap (λ k. getD places k 0) next, type-bound 24 (getD places m 0) (getD places (m + 1) 0 - 3) s (omega arith) (e .1))
 
 -- what the places of the definitions say stays with them
-pub table-stays : {s : List ℕ} {n : ℕ} {places u : List ℕ} → Table s n places → Behind places u → Table s n u
+pub table-stays : {s : List ℕ} {n : ℕ} {places u : List ℕ} → Table s n places → Front places u → Table s n u
 table-stays {s} {n} {places} {u} t b =
     record {
       count = t .count;

@@ -1,4 +1,5 @@
--- What is noted of the fields of structs: for each name that a field has, the indices of the first and the last such field.
+-- What is noted of the fields of structs: for each name that a field has, the indices of the first and the last such field; for each field
+-- where its type leads. Behind it there is to be room for the references, which are counted here.
 use Prim.Native.Nat.{ℕ, zero, suc, _+_, _-_, _*_, _≤_, _<_}
 use mathlib.Core.Path.{_≡_}
 use mathlib.Core.Bool.{Bool, true, false}
@@ -13,7 +14,7 @@ use Rattle.meaning.specs.Limits.{definitionLimit}
 use Rattle.bundle.specs.Definitions.{typeAt, bundleOf, placesEnd}
 use Rattle.sizes.specs.Scan.{referencesFrom}
 use Rattle.table.specs.Table.{Members, member}
-use Rattle.fields.specs.Sought.{sought, lastShown}
+use Rattle.fields.specs.Sought.{named, shown}
 
 -- the name of field k
 abbrev pub nameAt : List Member → ℕ → ℕ
@@ -54,7 +55,8 @@ pub record Part (ms : List Member) (notes : List ℕ) (a : ℕ) : Type 0 where
   pub room : a + 2 + 6 * length ms ≤ length notes
   pub all : NotedTo ms notes a (length ms) (getD notes (a + 1) 0) (length ms)
 
--- one more than the number of the first definition of the name to which a TypeRef leads, and 0 where there is none
+-- one more than the number of the first definition of the name to which a TypeRef leads, or than the count of definitions where the name has
+-- none; 0 where the type is no TypeRef
 abbrev pub leadShown : Bundle → Option ℕ → ℕ
 leadShown b none = 0
 leadShown b (some x) = definitionOf b x + 1
@@ -88,8 +90,8 @@ pub record NotedFor (ms : List Member) (notes : List ℕ) (a : ℕ) : Type 0 whe
 
 -- one more than the index of the first field of the name x, or of the last, and 0 where there is none
 abbrev pub indexShown : Bool → ℕ → List Member → ℕ
-indexShown false x ms = lastShown 0 0 (firstIndex (sought false x) ms)
-indexShown true x ms = lastShown 0 0 (lastIndex (sought false x) ms)
+indexShown false x ms = shown (firstIndex (named x) ms)
+indexShown true x ms = shown (lastIndex (named x) ms)
 
 -- the fields of a type, none where it is no struct
 abbrev pub fieldsOf : Ty → List Member
@@ -127,29 +129,32 @@ referencesTo s places zero = 0
 referencesTo s places (suc n) = referencesTo s places n + length (referencesOf s places n)
 
 -- where the first n definitions end, with the head of the next
-abbrev pub endOf : List ℕ → ℕ → ℕ
-endOf places zero = 0
-endOf places (suc n) = getD places (suc n) 0
+abbrev pub endBefore : List ℕ → ℕ → ℕ
+endBefore places zero = 0
+endBefore places (suc n) = getD places (suc n) 0
 
 -- the fields of n definitions are noted
-pub record Noted (s places : List ℕ) (n : ℕ) : Type 0 where
+pub record FieldsNoted (s places : List ℕ) (n : ℕ) : Type 0 where
   pub size : partsAt ≤ length places
   pub each : (i : ℕ) → i < n → NotedFor (fieldsAt s places i) places (partOf places i)
   pub leads : (i : ℕ) → i < n → 0 < partOf places i
       → LeadsTo (leadsOf (bundleOf s) (fieldsAt s places i)) places (partOf places i) (length (fieldsAt s places i)) (length (fieldsAt s places i))
   pub few : (i : ℕ) → i < n → 4 * length (fieldsAt s places i) ≤ length s
 
--- the same in the first `used` places; the parts, and three for each reference, take at most three for every two bytes of n definitions
-pub record NotedBelow (s places : List ℕ) (n used : ℕ) : Type 0 where
-  pub noted : Noted s places n
+-- the same, in parts before `used`
+pub record FieldsBelow (s places : List ℕ) (n used : ℕ) : Type 0 where
+  pub noted : FieldsNoted s places n
   pub from : partsAt ≤ used
-  pub room : 2 * used + 6 * referencesTo s places n ≤ 2 * partsAt + 3 * endOf places n
+  pub parts : (i : ℕ) → i < n → 0 < partOf places i → (partsAt ≤ partOf places i) × (partOf places i + 2 + 6 * length (fieldsAt s places i) ≤ used)
+
+-- the same where the parts, and three places for each reference, take at most three places for every two bytes of the n definitions
+pub record NotedBelow (s places : List ℕ) (n used : ℕ) : Type 0 where
+  pub below : FieldsBelow s places n used
+  pub room : 2 * used + 6 * referencesTo s places n ≤ 2 * partsAt + 3 * endBefore places n
   pub size : 2 * partsAt + 3 * length s + 9 ≤ 2 * length places
   pub short : length s ≤ 32768
-  pub parts : (i : ℕ) → i < n → 0 < partOf places i
-      → (partsAt ≤ partOf places i) × (partOf places i + 2 + 6 * length (fieldsAt s places i) ≤ used)
 
 -- the places of the definitions stay
-pub record Behind (places places′ : List ℕ) : Type 0 where
+pub record Front (places places′ : List ℕ) : Type 0 where
   pub size : length places′ ≡ length places
   pub same : (i : ℕ) → i < placesEnd → getD places′ i 0 ≡ getD places i 0

@@ -1,12 +1,12 @@
 // The fields of every struct by their names: noted once for a bundle, behind the places of its definitions, and then looked up.
-// Behind those places stands for each definition where its part starts, and 0 where it is no struct or has no field. A part has the count
-// of fields and the count of their names, then for each name the index of the first field that has it, then for each the index of the
+// Behind those places stands for each definition where its part starts, and 0 where it is no struct or has no field; then come the places
+// where the lists of references start (crate notes), and then the parts. A part has the count of fields and the count of their names, then for each name the index of the first field that has it, then for each the index of the
 // last, then a table of the names with as many buckets as there are fields, then for each field where its type leads.
 use fields::Shape;
 ghost use mathlib.Core.Path.{_≡_};
 ghost use mathlib.Core.Bool.{cond};
 ghost use mathlib.Core.List.{List};
-ghost use Prim.Native.Nat.{ℕ, _+_, _*_, _≤_, _<_};
+ghost use Prim.Native.Nat.{_+_, _*_, _≤_, _<_};
 ghost use lib.ListN.{length, getD};
 ghost use Rattle.meaning.specs.Lists.{lastIndex};
 ghost use Rattle.meaning.specs.Lookup.{listOf, asTypeRef};
@@ -14,9 +14,9 @@ ghost use Rattle.meaning.specs.Tree.{Member};
 ghost use Rattle.meaning.specs.ReadType.{readTy, readMembers};
 ghost use Rattle.bundle.specs.View.{Reads};
 ghost use Rattle.bundle.specs.Definitions.{typeAt, membersAt, bundleOf, Table};
-ghost use Rattle.fields.specs.Sought.{lastShown};
+ghost use Rattle.fields.specs.Sought.{shown};
 ghost use Rattle.table.specs.Table.{Members, Within};
-ghost use Rattle.field_index.specs.Noted.{nameAt, tableAt, startsAt, partsAt, NotedTo, Part, NotedFor, indexShown, leadShown, leadsOf, LeadsTo, leadIs, LastIn, fieldsAt, Noted, NotedBelow, Behind};
+ghost use Rattle.field_index.specs.Noted.{nameAt, tableAt, startsAt, partsAt, NotedTo, Part, NotedFor, indexShown, leadShown, leadsOf, LeadsTo, leadIs, LastIn, fieldsAt, FieldsNoted, NotedBelow, Front};
 
 // Where the parts start.
 pub const PARTS_AT: usize = bundle::PLACES + 2 * bundle::DEFINITIONS + 1;
@@ -36,7 +36,8 @@ fn note_name(notes: &mut [u16], a: usize, n: usize, d: usize, k: usize, x: u16) 
     d + 1
 }
 
-// One more than the number of the first definition of the name to which the type at `at`, a TypeRef, leads; 0 for other types.
+// One more than the number of the first definition of the name to which the type at `at`, a TypeRef, leads, or than the count of definitions
+// where the name has none; 0 for other types.
 fn lead_at(s: &[u8], places: &[u16], count: usize, at: usize) -> usize
     requires { ⌜ Table (now s) count (now places) × Reads (readTy 23 (now s) at) ⌝ }
     ensures { λ r. ⌜ (r ≡ leadShown (bundleOf (now (s .entry))) (asTypeRef (typeAt 23 (now (s .entry)) at))) × (r ≤ 257) ⌝ }
@@ -73,7 +74,7 @@ fn note_fields(s: &[u8], count: usize, at: usize, n: usize, notes: &mut [u16], a
 // Notes the fields of definition `i`, if it is a struct with fields, behind the first `used` places. Returns how many are used then.
 fn note_struct(s: &[u8], places: &mut [u16], count: usize, i: usize, used: usize) -> usize
     requires { ⌜ Table (now s) count (now places) × (i < count) × NotedBelow (now s) (now places) i used ⌝ }
-    ensures { λ r. ⌜ NotedBelow (now (s .entry)) (now (places .exit)) (i + 1) r × Behind (now (places .entry)) (now (places .exit)) ⌝ }
+    ensures { λ r. ⌜ NotedBelow (now (s .entry)) (now (places .exit)) (i + 1) r × Front (now (places .entry)) (now (places .exit)) ⌝ }
 {
     let at = places[i] as usize;
     let shape = fields::shape_at(s, at, bundle::DEPTH_LIMIT);
@@ -159,8 +160,8 @@ fn last_in(t: &[u16], at: usize, n: usize, x: usize) -> usize
 
 // One more than the index of the last field of definition `i` that leads where `lead` says, and 0 where there is none.
 pub fn last_lead(s: &[u8], places: &[u16], count: usize, i: usize, lead: usize) -> usize
-    requires { ⌜ Table (now s) count (now places) × Noted (now s) (now places) count × (i < count) ⌝ }
-    ensures { λ r. ⌜ (r ≡ lastShown 0 0 (lastIndex (leadIs (bundleOf (now (s .entry))) lead) (fieldsAt (now (s .entry)) (now (places .entry)) i))) × (4 * r ≤ length (now (s .entry))) ⌝ }
+    requires { ⌜ Table (now s) count (now places) × FieldsNoted (now s) (now places) count × (i < count) ⌝ }
+    ensures { λ r. ⌜ (r ≡ shown (lastIndex (leadIs (bundleOf (now (s .entry))) lead) (fieldsAt (now (s .entry)) (now (places .entry)) i))) × (4 * r ≤ length (now (s .entry))) ⌝ }
 {
     let a = places[bundle::PLACES + i] as usize;
     if a == 0 {

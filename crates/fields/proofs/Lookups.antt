@@ -1,5 +1,5 @@
 -- The first definition of a name, the fields of a struct so found, and their order.
-use Prim.Native.Nat.{ℕ, suc, _+_, _<_}
+use Prim.Native.Nat.{ℕ, suc, _<_}
 use native.Mathlib.Decide.{decLt}
 use mathlib.Core.Logic.{by-cases}
 use native.Mathlib.Omega.{arith}
@@ -20,7 +20,7 @@ use Rattle.fields.specs.declared.Place.{Place}
 use Rattle.fields.specs.declared.Definition.{Definition}
 use Rattle.fields.specs.declared.Definition.the-variants as definition
 use Rattle.fields.specs.Shapes.{PlacedAt, DefinitionIs, Defines}
-use Rattle.fields.specs.Sought.{lastShown}
+use Rattle.fields.specs.Sought.{shown}
 use Rattle.fields.proofs.Walking.{placed-reads}
 
 -- definition i is the first of its name
@@ -53,16 +53,16 @@ pub constant-none : (s : List ℕ) (x : ℕ) → findType (bundleOf s) x ≡ non
 constant-none s x e = rw e
 
 -- an index before another, as they are shown
-pub precedes-zero : (o p : Option ℕ) → lastShown 0 0 o ≡ 0 → false ≡ precedes o p
+pub precedes-zero : (o p : Option ℕ) → shown o ≡ 0 → false ≡ precedes o p
 precedes-zero none p e = refl
 precedes-zero (some i) p e = absurd (omega arith)
 
-pub precedes-shown : (o p : Option ℕ) → (lastShown 0 0 o ≡ 0 → ⊥) → ltb (lastShown 0 0 o) (lastShown 0 0 p) ≡ precedes o p
+pub precedes-shown : (o p : Option ℕ) → (shown o ≡ 0 → ⊥) → ltb (shown o) (shown p) ≡ precedes o p
 precedes-shown none p ne = absurd (ne refl)
-precedes-shown (some i) none ne = le-ltb (suc (i + 0)) 0 (omega arith)
+precedes-shown (some i) none ne = le-ltb (suc i) 0 (omega arith)
 precedes-shown (some i) (some j) ne =
-    by-cases (decLt i j) (λ (h : i < j). lt-ltb (suc (i + 0)) (suc (j + 0)) (omega arith) ∙ sym (lt-ltb i j h))
-    (λ (h : ¬ (i < j)). le-ltb (suc (i + 0)) (suc (j + 0)) (omega arith) ∙ sym (le-ltb i j (omega arith)))
+    by-cases (decLt i j) (λ (h : i < j). lt-ltb (suc i) (suc j) (omega arith) ∙ sym (lt-ltb i j h))
+    (λ (h : ¬ (i < j)). le-ltb (suc i) (suc j) (omega arith) ∙ sym (le-ltb i j (omega arith)))
 
 -- the position of the first definition's type is its place
 pub definition-placed : {s : List ℕ} {n : ℕ} {places : List ℕ} → Table s n places → {x i at : ℕ} → DefinitionIs s n x i at → DefinitionIs s n x i (getD places i 0)

@@ -1,17 +1,20 @@
 -- The fields that are sought, and how the code shows an index.
-use Prim.Native.Nat.{ℕ, suc, _+_}
-use mathlib.Core.Bool.{Bool, true, false}
+use Prim.Native.Nat.{ℕ, suc}
+use mathlib.Core.Bool.{Bool}
 use mathlib.Core.Option.{Option, none, some}
 use lib.Dec.{eqb}
 use Rattle.meaning.specs.Tree.{Member}
 use Rattle.meaning.specs.Lookup.{memberName, memberType, refersTo}
 
--- the field is a TypeRef to x, or has the name x
-abbrev pub sought : Bool → ℕ → Member → Bool
-sought true x m = refersTo x (memberType m)
-sought false x m = eqb x (memberName m)
+-- the field is a TypeRef to x
+abbrev pub refers : ℕ → Member → Bool
+refers x m = refersTo x (memberType m)
 
--- one more than the index of the last, k places on, and z where there is none
-abbrev pub lastShown : ℕ → ℕ → Option ℕ → ℕ
-lastShown k z none = z
-lastShown k z (some i) = suc (i + k)
+-- the field has the name x
+abbrev pub named : ℕ → Member → Bool
+named x m = eqb x (memberName m)
+
+-- one more than an index, and 0 where there is none
+abbrev pub shown : Option ℕ → ℕ
+shown none = 0
+shown (some i) = suc i

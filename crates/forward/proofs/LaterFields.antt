@@ -14,7 +14,7 @@ use Rattle.meaning.specs.Tree.{Ty, Member, Bundle}
 use Rattle.meaning.specs.Violations.{structOf, standsAfter, isLaterField}
 use Rattle.bundle.specs.Definitions.{bundleOf}
 use Rattle.sizes.specs.Scan.{pathAt}
-use Rattle.fields.specs.Sought.{lastShown}
+use Rattle.fields.specs.Sought.{shown}
 use Rattle.checks.specs.Checks.{targetAt, typePart}
 use Rattle.checks.proofs.ForwardChecks.{no-field, holds-no}
 use Rattle.notes.specs.Notes.{firstShown, Entry}
@@ -30,13 +30,13 @@ and-false true = refl
 and-false false = refl
 
 -- a field stands after index j where one more than its index is more than j + 1
-after-shown : (j : ℕ) (o : Option ℕ) → ltb (j + 1) (lastShown 0 0 o) ≡ holds (ltb j) o
+after-shown : (j : ℕ) (o : Option ℕ) → ltb (j + 1) (shown o) ≡ holds (ltb j) o
 after-shown j none = le-ltb (j + 1) 0 (omega arith)
 after-shown j (some i) = go (ltb j i) refl
   where
-    go : (b : Bool) → ltb j i ≡ b → ltb (j + 1) (suc (i + 0)) ≡ b
-    go true q = let w = ltb-true j i q in lt-ltb (j + 1) (suc (i + 0)) (omega arith)
-    go false q = let w = ltb-false j i q in le-ltb (j + 1) (suc (i + 0)) (omega arith)
+    go : (b : Bool) → ltb j i ≡ b → ltb (j + 1) (suc i) ≡ b
+    go true q = let w = ltb-true j i q in lt-ltb (j + 1) (suc i) (omega arith)
+    go false q = let w = ltb-false j i q in le-ltb (j + 1) (suc i) (omega arith)
 
 fields-shown : (j : ℕ) (field : List ℕ) (o : Option (List Member)) → ltb (j + 1) (firstShown field o) ≡ holds (standsAfter j field) o
 fields-shown j field none = le-ltb (j + 1) 0 (omega arith)

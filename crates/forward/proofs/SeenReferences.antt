@@ -23,6 +23,7 @@ use Rattle.sizes.specs.Scan.{pathAt, referencesFrom, foundOf, Fits}
 use Rattle.sizes.specs.declared.Found.{Found}
 use Rattle.sizes.specs.declared.Found.the-variants.{At, Nothing}
 use Rattle.sizes.proofs.ReferenceLaws.{type-references}
+use Rattle.notes.proofs.Stays.{lists-length}
 use Rattle.notes.specs.Notes.{isConstantArray, needsReferences, neededOf, Lists, listStart, Listed}
 use Rattle.notes.proofs.Needs.{needs-iff}
 use Rattle.forward.specs.Forward.{isForward, find, positionShown, FitIn, ForwardIn, isLater, isLaterAt, laterFrom, SeenTo, Seen}
@@ -80,11 +81,6 @@ module _ (s : List ℕ) (at end : ℕ) (e : Next end ≡ stepOf (readTy 24 s at)
           sym (find-none (referencesFrom s at end))
           ∙ find-same (λ _. false) forward (referencesFrom s at end) (λ p m. no (isLater s n k p) ∙ ap (isLater s n k p &&_) h ∙ sym (is-forward p m))
 
--- a list takes three places for each reference
-lists-end : (s places : List ℕ) {end : ℕ} (ps : List ℕ) (a : ℕ) → Lists s places end a ps → a + 3 * length ps ≡ end
-lists-end s places [] a l = omega (arith, l)
-lists-end s places (p ∷ ps) a l = omega (arith, lists-end s places ps (a + 3) (l .1))
-
 -- the references are seen to `next`, and the one that is listed there, if there is one, leads to a field behind index j
 pub record Stopped (s places : List ℕ) (end n j : ℕ) (ps : List ℕ) (next : ℕ) : Type 0 where
   pub seen : SeenTo s places end n j ps next
@@ -116,12 +112,12 @@ module _ {s places : List ℕ} {end n j : ℕ} {ps : List ℕ} where
   -- a search from where the list is seen to
   module _ {from : ℕ} (c : SeenTo s places end n j ps from) where
     pub seen-ends : (k : ℕ) × (from + 3 * k ≡ end)
-    seen-ends = (length (c .rest), lists-end s places (c .rest) from (c .lists))
+    seen-ends = (length (c .rest), lists-length s places end from (c .rest) (c .lists))
 
     pub seen-stop : {r : ℕ} → ((k : ℕ) → from + 3 * k ≡ end → r ≡ laterFrom places n j k from) → Stopped s places end n j ps r
     seen-stop h =
         let w = stop-at s places end n j (c .rest) from (c .lists) (c .fits) in
-        rw (h (length (c .rest)) (lists-end s places (c .rest) from (c .lists))) record {
+        rw (h (length (c .rest)) (lists-length s places end from (c .rest) (c .lists))) record {
           seen = record { rest = w .seen .rest; lists = w .seen .lists; fits = w .seen .fits; same = λ k l. w .seen .same k l ∙ c .same k l };
           here = w .here;
         }
@@ -129,10 +125,10 @@ module _ {s places : List ℕ} {end n j : ℕ} {ps : List ℕ} where
   -- what stands where it stopped
   module _ {next : ℕ} (c : Stopped s places end n j ps next) where
     pub stop-bound : next ≤ end
-    stop-bound = omega (arith, lists-end s places (c .seen .rest) next (c .seen .lists))
+    stop-bound = omega (arith, lists-length s places end next (c .seen .rest) (c .seen .lists))
 
     pub stop-room : next < end → next + 3 ≤ end
-    stop-room l = omega (arith, lists-end s places (c .seen .rest) next (c .seen .lists))
+    stop-room l = omega (arith, lists-length s places end next (c .seen .rest) (c .seen .lists))
 
     pub stop-found : next < end → At (getD places (next + 2) 0) ≡ foundOf (c .seen .rest)
     stop-found l = go (c .seen .rest) (c .seen .lists)
@@ -146,7 +142,7 @@ module _ {s places : List ℕ} {end n j : ℕ} {ps : List ℕ} where
       where
         go : (rest : List ℕ) → Lists s places end next rest → Nothing ≡ foundOf rest
         go [] e = refl
-        go (p ∷ rest) e = absurd (omega (arith, lists-end s places rest (next + 3) (e .1)))
+        go (p ∷ rest) e = absurd (omega (arith, lists-length s places end (next + 3) rest (e .1)))
 
 found-fits : (s ps : List ℕ) → Fits s ps → FitIn s (foundOf ps)
 found-fits s [] f = tt

@@ -12,7 +12,7 @@ use Rattle.table.specs.Table.{Within}
 use Rattle.sizes.specs.Scan.{referencesFrom, Fits}
 use Rattle.checks.specs.Checks.{targetAt, typePart, ReferenceIs}
 use Rattle.notes.specs.Notes.{indexFor, Entry, Lists}
-use Rattle.notes.specs.Listing.{Room}
+use Rattle.notes.specs.Listing.{RoomFor}
 use Rattle.notes.proofs.Stays.{entry-same}
 
 module _ (t : List ℕ) (a p x k : ℕ) (there : a + 3 ≤ length t) where
@@ -73,7 +73,7 @@ module _ {s : List ℕ} {at end : ℕ} {t : List ℕ} {used : ℕ} {u : List ℕ
 
   module _ {p after : ℕ} (g : ReferenceIs s next end p after) where
     -- there is room for one more
-    pub walk-room : Room t used (length (referencesFrom s at end)) → Room u to 1
+    pub walk-room : RoomFor t used (length (referencesFrom s at end)) → RoomFor u to 1
     walk-room r =
         let long = ap length (g .rest) in
         record { there = omega (arith, long, c .left, r .there, c .only .size); small = omega (arith, long, c .left, r .small) }

@@ -17,9 +17,9 @@ use Rattle.meaning.specs.Violations.{structOf}
 use Rattle.bundle.specs.Definitions.{typeAt, bundleOf, Table}
 use Rattle.sizes.specs.Scan.{pathAt}
 use Rattle.fields.specs.Shapes.{DefinitionIs}
-use Rattle.fields.specs.Sought.{sought, lastShown}
+use Rattle.fields.specs.Sought.{named, shown}
 use Rattle.fields.proofs.Lookups.{definition-placed, struct-none}
-use Rattle.field_index.specs.Noted.{startsAt, fieldsOf, fieldsAt, indexShown, Noted}
+use Rattle.field_index.specs.Noted.{startsAt, fieldsOf, fieldsAt, indexShown, FieldsNoted}
 use Rattle.checks.specs.declared.Part.the-variants as part
 use Rattle.checks.specs.Checks.{targetAt, typePart, PartOf}
 use Rattle.checks.proofs.ForwardChecks.{no-field}
@@ -61,22 +61,22 @@ module _ (s : List ℕ) (p : ℕ) where
         ∙ rw (g (bundleOf s .current), ← e, definition-placed t d .is) refl
 
 -- an index is below the count of fields
-shown-next : (o : Option ℕ) → lastShown 0 0 (Option·map suc o) ≤ suc (lastShown 0 0 o)
+shown-next : (o : Option ℕ) → shown (Option·map suc o) ≤ suc (shown o)
 shown-next none = omega arith
 shown-next (some i) = omega arith
 
-shown-bound : (test : Member → Bool) (ms : List Member) → lastShown 0 0 (firstIndex test ms) ≤ length ms
+shown-bound : (test : Member → Bool) (ms : List Member) → shown (firstIndex test ms) ≤ length ms
 shown-bound test [] = omega arith
 shown-bound test (m ∷ ms) = go (test m) (shown-bound test ms)
   where
-    go : (b : Bool) → lastShown 0 0 (firstIndex test ms) ≤ length ms → lastShown 0 0 (cond b (some 0) (Option·map suc (firstIndex test ms))) ≤ suc (length ms)
+    go : (b : Bool) → shown (firstIndex test ms) ≤ length ms → shown (cond b (some 0) (Option·map suc (firstIndex test ms))) ≤ suc (length ms)
     go true h = omega arith
     go false h = omega (arith, shown-next (firstIndex test ms))
 
-pub index-small : {s places : List ℕ} {n : ℕ} → Noted s places n → {i : ℕ} → i < n → ((k : ℕ) → getD places k 0 < 65536) → (f : ℕ) → indexShown false f (fieldsAt s places i) < 65536
+pub index-small : {s places : List ℕ} {n : ℕ} → FieldsNoted s places n → {i : ℕ} → i < n → ((k : ℕ) → getD places k 0 < 65536) → (f : ℕ) → indexShown false f (fieldsAt s places i) < 65536
 index-small {s} {places} o {i} c l f =
     by-cases (decLt 0 (getD places (startsAt + i) 0))
-    (λ (h : 0 < getD places (startsAt + i) 0). omega (arith, shown-bound (sought false f) (fieldsAt s places i), o .each i c .part h .count, l (getD places (startsAt + i) 0)))
+    (λ (h : 0 < getD places (startsAt + i) 0). omega (arith, shown-bound (named f) (fieldsAt s places i), o .each i c .part h .count, l (getD places (startsAt + i) 0)))
     (λ (h : ¬ (0 < getD places (startsAt + i) 0)).
     let no : fieldsAt s places i ≡ [] = o .each i c .none (omega arith) in
     rw no (omega arith))

@@ -21,10 +21,10 @@ use Rattle.bundle.specs.Opened.{LayoutOf}
 use Rattle.table.specs.Table.{Within}
 use Rattle.sizes.specs.Scan.{referencesFrom, Fits}
 use Rattle.sizes.proofs.ReferenceLaws.{type-fits}
-use Rattle.field_index.specs.Noted.{partsAt, referencesOf, referencesTo}
+use Rattle.field_index.specs.Noted.{partsAt, referencesOf, referencesTo, FieldsBelow}
 use Rattle.notes.specs.Notes.{needsReferences, neededOf, Lists, listsAt, listStart, Noted}
-use Rattle.notes.specs.Listing.{Room, FieldsBelow}
-use Rattle.notes.proofs.Stays.{Kept, kept-within, kept-start, kept-both, layout-kept, fields-kept, fields-more, lists-length, lists-same}
+use Rattle.notes.specs.Listing.{RoomFor}
+use Rattle.notes.proofs.Stays.{Stays, kept-within, kept-start, kept-both, layout-kept, fields-kept, fields-more, lists-length, lists-same}
 
 -- there are few definitions
 pub few : {s : List ℕ} {n : ℕ} {places : List ℕ} → Table s n places → n ≤ 256
@@ -60,7 +60,7 @@ refs-more s places i (suc n) l =
     by-cases (decLt n i) (λ (c : n < i). let z : i ≡ suc n = omega arith in rw z (omega arith))
     (λ (c : ¬ (n < i)). omega (arith, refs-more s places i n (omega arith)))
 
-module _ (s : List ℕ) {t u : List ℕ} {a : ℕ} (k : Kept t u a) where
+module _ (s : List ℕ) {t u : List ℕ} {a : ℕ} (k : Stays t u a) where
   refs-same : (i : ℕ) → i < 256 → referencesOf s u i ≡ referencesOf s t i
   refs-same i l = ap₂ (λ x y. referencesFrom s x (y - 3)) (k .front i (omega arith)) (k .front (i + 1) (omega arith))
 
@@ -82,7 +82,7 @@ pub record Listing (s : List ℕ) (l : Layout) (u : List ℕ) (used i : ℕ) : T
   pub inside : (j : ℕ) → j ≤ i → (partsAt ≤ listStart u j) × (listStart u j ≤ used)
   pub each : (j : ℕ) → j < i → Lists s u (listStart u (j + 1)) (listStart u j) (neededOf s u j)
 
-pub listing-start : {s : List ℕ} {l : Layout} {t : List ℕ} {used : ℕ} → LayoutOf s l t → FieldsBelow s t (l .definitions) used → Room t used (referencesTo s t (l .definitions))
+pub listing-start : {s : List ℕ} {l : Layout} {t : List ℕ} {used : ℕ} → LayoutOf s l t → FieldsBelow s t (l .definitions) used → RoomFor t used (referencesTo s t (l .definitions))
     → Listing s l (set t listsAt used) used 0
 listing-start {s} {l} {t} {used} o f r =
     record {
@@ -96,7 +96,7 @@ listing-start {s} {l} {t} {used} o f r =
       each = λ j c. absurd (omega arith);
     }
   where
-    kept : Kept t (set t listsAt used) used
+    kept : Stays t (set t listsAt used) used
     kept = kept-start t 0 used (omega arith) used
 
     same : referencesTo s (set t listsAt used) (l .definitions) ≡ referencesTo s t (l .definitions)
@@ -106,7 +106,7 @@ listing-start {s} {l} {t} {used} o f r =
     here = getD-set-same t listsAt used 0 (omega (arith, f .noted .size))
 
 module _ {s : List ℕ} {l : Layout} {u : List ℕ} {used i : ℕ} (c : Listing s l u used i) where
-  pub listing-room : i < l .definitions → Room u used (length (referencesOf s u i))
+  pub listing-room : i < l .definitions → RoomFor u used (length (referencesOf s u i))
   listing-room b =
       let all = refs-more s u (suc i) (l .definitions) b in
       record { there = omega (arith, all, c .there); small = omega (arith, all, c .small) }
@@ -119,7 +119,6 @@ module _ {s : List ℕ} {l : Layout} {u : List ℕ} {used i : ℕ} (c : Listing 
           fields = c .fields .noted;
           references = record {
             size = omega (arith, few (c .layout .table), c .fields .noted .size);
-            some = λ j d. omega (arith, c .inside j (omega arith) .0);
             each = λ j d. c .each j (omega arith);
             fits = λ j d. needed-fit (c .layout .table) d;
             within = λ j d. omega (arith, c .inside (j + 1) (omega arith) .1, all, c .there);
@@ -135,7 +134,7 @@ module _ {s : List ℕ} {l : Layout} {u : List ℕ} {used i : ℕ} (c : Listing 
     little : i < 256
     little = omega (arith, few (c .layout .table))
 
-    kept : Kept u next used
+    kept : Stays u next used
     kept = kept-both (omega arith) (kept-within (c .fields .from) w) (kept-start v (i + 1) e (omega (arith, little)) used)
 
     long : used + 3 * length (neededOf s u i) ≡ e
@@ -208,7 +207,7 @@ module _ {s : List ℕ} {n : ℕ} {places : List ℕ} (t : Table s n places) {i 
     pub refs-there : Fits s (referencesFrom s at end)
     refs-there = rw refs-are (refs-fit t l)
 
-    pub refs-room : {used : ℕ} → Room places used (length (referencesOf s places i)) → Room places used (length (referencesFrom s at end))
+    pub refs-room : {used : ℕ} → RoomFor places used (length (referencesOf s places i)) → RoomFor places used (length (referencesFrom s at end))
     refs-room r = rw refs-are r
 
     pub all-listed : (used r : ℕ) (u : List ℕ) → true ≡ needsReferences (typeAt 24 s at) → Lists s u r used (referencesFrom s at end) → Lists s u r used (neededOf s places i)

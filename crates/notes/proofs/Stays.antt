@@ -1,5 +1,5 @@
 -- What stands before the lists stays while they are written.
---     Kept                           all places before a certain one but those where lists start
+--     Stays                          all places before a certain one but those where lists start
 --     kept-within, -start, -both     what keeps them
 --     layout-kept, fields-kept       what stays with them
 --     lists-length, lists-same       a list
@@ -14,22 +14,22 @@ use Rattle.bundle.specs.declared.Layout.{Layout}
 use Rattle.bundle.specs.Definitions.{typeAt, bundleOf, Table}
 use Rattle.bundle.specs.Opened.{LayoutOf}
 use Rattle.table.specs.Table.{Within}
-use Rattle.field_index.specs.Noted.{startsAt, partsAt, partOf, leadsOf, fieldsOf, fieldsAt, referencesTo, NotedBelow}
+use Rattle.field_index.specs.Noted.{startsAt, partsAt, partOf, leadsOf, fieldsOf, fieldsAt, referencesTo, FieldsBelow, NotedBelow}
 use Rattle.field_index.proofs.Structs.{below-room, table-stays}
 use Rattle.field_index.proofs.Walking.{for-same, leads-same}
 use Rattle.notes.specs.Notes.{Entry, Lists, listsAt}
-use Rattle.notes.specs.Listing.{Room, FieldsBelow}
+use Rattle.notes.specs.Listing.{RoomFor}
 
 -- the places before `used` hold the same, but for those where lists start
-pub record Kept (t u : List ℕ) (used : ℕ) : Type 0 where
+pub record Stays (t u : List ℕ) (used : ℕ) : Type 0 where
   pub size : length u ≡ length t
   pub front : (i : ℕ) → i < listsAt → getD u i 0 ≡ getD t i 0
   pub back : (i : ℕ) → partsAt ≤ i → i < used → getD u i 0 ≡ getD t i 0
 
-pub kept-within : {a e : ℕ} {t u : List ℕ} → partsAt ≤ a → Within a e t u → Kept t u a
+pub kept-within : {a e : ℕ} {t u : List ℕ} → partsAt ≤ a → Within a e t u → Stays t u a
 kept-within l w = record { size = w .size; front = λ i c. w .before i (omega arith); back = λ i b c. w .before i c }
 
-pub kept-start : (t : List ℕ) (j v : ℕ) → j ≤ definitionLimit → (used : ℕ) → Kept t (set t (listsAt + j) v) used
+pub kept-start : (t : List ℕ) (j v : ℕ) → j ≤ definitionLimit → (used : ℕ) → Stays t (set t (listsAt + j) v) used
 kept-start t j v l used =
     record {
       size = length-set t (listsAt + j) v;
@@ -37,7 +37,7 @@ kept-start t j v l used =
       back = λ i b c. getD-set-other t (listsAt + j) i v 0 (λ z. omega (arith, z));
     }
 
-pub kept-both : {t u v : List ℕ} {a b : ℕ} → a ≤ b → Kept t u a → Kept u v b → Kept t v a
+pub kept-both : {t u v : List ℕ} {a b : ℕ} → a ≤ b → Stays t u a → Stays u v b → Stays t v a
 kept-both l k m =
     record {
       size = m .size ∙ k .size;
@@ -48,14 +48,11 @@ kept-both l k m =
 pub layout-table : {s : List ℕ} {l : Layout} {t u : List ℕ} → LayoutOf s l t → Table s (l .definitions) u → LayoutOf s l u
 layout-table o t = record { small = o .small; read = o .read; table = t; edges = o .edges; few = o .few; current = o .current; from = o .from }
 
-pub layout-kept : {s : List ℕ} {l : Layout} {t u : List ℕ} {a : ℕ} → Kept t u a → LayoutOf s l t → LayoutOf s l u
+pub layout-kept : {s : List ℕ} {l : Layout} {t u : List ℕ} {a : ℕ} → Stays t u a → LayoutOf s l t → LayoutOf s l u
 layout-kept k o = layout-table o (table-stays (o .table) (record { size = k .size; same = λ i c. k .front i (omega arith) }))
 
 -- the notes of the fields
-pub fields-start : {s places : List ℕ} {n used : ℕ} → NotedBelow s places n used → FieldsBelow s places n used
-fields-start o = record { noted = o .noted; from = o .from; parts = o .parts }
-
-pub room-start : {s places : List ℕ} {n used : ℕ} → Table s n places → NotedBelow s places n used → Room places used (referencesTo s places n)
+pub room-start : {s places : List ℕ} {n used : ℕ} → Table s n places → NotedBelow s places n used → RoomFor places used (referencesTo s places n)
 room-start t o = let r = below-room t o in record { there = r .0; small = r .1 }
 
 pub fields-more : {s places : List ℕ} {n a b : ℕ} → a ≤ b → FieldsBelow s places n a → FieldsBelow s places n b
@@ -66,7 +63,7 @@ fields-more l o =
       parts = λ i c h. let q = o .parts i c h in (q .0, omega (arith, q .1));
     }
 
-pub fields-kept : {s : List ℕ} {n : ℕ} {t u : List ℕ} {a : ℕ} → n ≤ definitionLimit → Kept t u a → FieldsBelow s t n a → FieldsBelow s u n a
+pub fields-kept : {s : List ℕ} {n : ℕ} {t u : List ℕ} {a : ℕ} → n ≤ definitionLimit → Stays t u a → FieldsBelow s t n a → FieldsBelow s u n a
 fields-kept {s} {n} {t} {u} few k o =
     record {
       noted = record {

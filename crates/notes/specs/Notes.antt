@@ -15,9 +15,8 @@ use Rattle.meaning.specs.Tree.{Ty, primitive, typeRef, struct, union, enum, arr
 use Rattle.meaning.specs.Violations.{structOf}
 use Rattle.bundle.specs.Definitions.{typeAt, bundleOf}
 use Rattle.sizes.specs.Scan.{Fits}
-use Rattle.fields.specs.Sought.{lastShown}
-use Rattle.field_index.specs.Noted as fields
-use Rattle.field_index.specs.Noted.{startsAt, referencesOf}
+use Rattle.fields.specs.Sought.{shown}
+use Rattle.field_index.specs.Noted.{startsAt, referencesOf, FieldsNoted}
 use Rattle.checks.specs.Checks.{targetAt}
 
 -- the type is an array of constant size
@@ -41,7 +40,7 @@ neededOf s places i = cond (needsReferences (typeAt 24 s (getD places i 0))) (re
 -- one more than the index of the first of a struct's fields that is the field part, and 0 where there is none
 abbrev pub firstShown : List ℕ → Option (List Member) → ℕ
 firstShown field none = 0
-firstShown field (some ms) = lastShown 0 0 (firstIndex (namesField field) ms)
+firstShown field (some ms) = shown (firstIndex (namesField field) ms)
 
 -- the same of the first definition of the type that a reference means, if that is a struct
 abbrev pub indexFor : Bundle → Target → ℕ
@@ -68,12 +67,11 @@ listStart places i = getD places (listsAt + i) 0
 -- the references of n definitions that they need are listed
 pub record Listed (s places : List ℕ) (n : ℕ) : Type 0 where
   pub size : listsAt + n < length places
-  pub some : (i : ℕ) → i < n → 0 < listStart places i
   pub each : (i : ℕ) → i < n → Lists s places (listStart places (i + 1)) (listStart places i) (neededOf s places i)
   pub fits : (i : ℕ) → i < n → Fits s (neededOf s places i)
   pub within : (i : ℕ) → i < n → listStart places (i + 1) ≤ length places
 
 -- the fields and the references of n definitions are noted
 pub record Noted (s places : List ℕ) (n : ℕ) : Type 0 where
-  pub fields : fields.Noted s places n
+  pub fields : FieldsNoted s places n
   pub references : Listed s places n

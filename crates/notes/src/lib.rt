@@ -16,10 +16,10 @@ ghost use Rattle.bundle.specs.Opened.{LayoutOf};
 ghost use Rattle.table.specs.Table.{Within};
 ghost use Rattle.sizes.specs.Paths.{Fit};
 ghost use Rattle.sizes.specs.Scan.{referencesFrom, Fits};
-ghost use Rattle.field_index.specs.Noted.{partsAt, referencesOf, Noted as Fields, NotedBelow};
+ghost use Rattle.field_index.specs.Noted.{partsAt, referencesOf, FieldsNoted, FieldsBelow, NotedBelow};
 ghost use Rattle.checks.specs.Checks.{targetAt, typePart};
 ghost use Rattle.notes.specs.Notes.{isConstantArray, needsReferences, neededOf, indexFor, Entry, Lists, Noted};
-ghost use Rattle.notes.specs.Listing.{Room, FieldsBelow};
+ghost use Rattle.notes.specs.Listing.{RoomFor};
 
 // Where it stands for each definition where its list starts.
 pub const LISTS_AT: usize = bundle::PLACES + bundle::DEFINITIONS;
@@ -50,7 +50,7 @@ fn needs_references(s: &[u8], at: usize) -> bool
 // One more than the index of the first field that is the field part of the reference at `path`, in the first definition of the name
 // `container`, if that is a struct; 0 where there is none.
 fn index_for(s: &[u8], places: &[u16], count: usize, path: usize, container: u16) -> u16
-    requires { ⌜ Table (now s) count (now places) × Fit (now s) path × (container ≡ typePart (now s) path) × Fields (now s) (now places) count ⌝ }
+    requires { ⌜ Table (now s) count (now places) × Fit (now s) path × (container ≡ typePart (now s) path) × FieldsNoted (now s) (now places) count ⌝ }
     ensures { λ r. ⌜ r ≡ indexFor (bundleOf (now (s .entry))) (targetAt (now (s .entry)) path) ⌝ }
 {
     let part = checks::field_part(s, path);
@@ -66,7 +66,7 @@ fn index_for(s: &[u8], places: &[u16], count: usize, path: usize, container: u16
 
 // Lists the reference at `path` in the three places at `used`.
 fn put_entry(s: &[u8], places: &mut [u16], layout: Layout, path: usize, used: usize)
-    requires { ⌜ LayoutOf (now s) layout (now places) × FieldsBelow (now s) (now places) (layout .definitions) used × Fit (now s) path × Room (now places) used 1 ⌝ }
+    requires { ⌜ LayoutOf (now s) layout (now places) × FieldsBelow (now s) (now places) (layout .definitions) used × Fit (now s) path × RoomFor (now places) used 1 ⌝ }
     ensures { λ _. ⌜ Entry (now (s .entry)) (now (places .exit)) used path × Within used (used + 3) (now (places .entry)) (now (places .exit)) ⌝ }
 {
     let target = sizes::parse_field_reference(s, path, layout.current);
@@ -85,7 +85,7 @@ fn list_from(
     end: usize,
     used: usize,
 ) -> usize
-    requires { ⌜ LayoutOf (now s) layout (now places) × FieldsBelow (now s) (now places) (layout .definitions) used × (end ≤ length (now s)) × Fits (now s) (referencesFrom (now s) at end) × Room (now places) used (length (referencesFrom (now s) at end)) ⌝ }
+    requires { ⌜ LayoutOf (now s) layout (now places) × FieldsBelow (now s) (now places) (layout .definitions) used × (end ≤ length (now s)) × Fits (now s) (referencesFrom (now s) at end) × RoomFor (now places) used (length (referencesFrom (now s) at end)) ⌝ }
     ensures { λ r. ⌜ Lists (now (s .entry)) (now (places .exit)) r used (referencesFrom (now (s .entry)) at end) × Within used r (now (places .entry)) (now (places .exit)) ⌝ }
 {
     let mut next = at;
@@ -104,7 +104,7 @@ fn list_from(
 
 // Lists the references of definition `i`, where it needs them, from the place `used` on. Returns where the list ends.
 fn list_definition(s: &[u8], places: &mut [u16], layout: Layout, i: usize, used: usize) -> usize
-    requires { ⌜ LayoutOf (now s) layout (now places) × FieldsBelow (now s) (now places) (layout .definitions) used × (i < layout .definitions) × Room (now places) used (length (referencesOf (now s) (now places) i)) ⌝ }
+    requires { ⌜ LayoutOf (now s) layout (now places) × FieldsBelow (now s) (now places) (layout .definitions) used × (i < layout .definitions) × RoomFor (now places) used (length (referencesOf (now s) (now places) i)) ⌝ }
     ensures { λ r. ⌜ Lists (now (s .entry)) (now (places .exit)) r used (neededOf (now (s .entry)) (now (places .entry)) i) × Within used r (now (places .entry)) (now (places .exit)) ⌝ }
 {
     let place = fields::place_of(s, places, layout.definitions, i);

@@ -1,5 +1,5 @@
 // The search for chains to one name over prepared edges: one search backwards from the name says how far each name is from it. Where a name
-// is reached, the hops say where each chain goes on, and its chain is read off if it is wanted; they are set once, before the first chain is.
+// is reached, the hops say where each chain goes on, and its chain is read off if it is wanted; they are set once, before the first that is.
 // The slice that is lent has places that follow from the count of the edges:
 //     0                     0 where no search was made, 1 where it is known how far each number is, 2 where the hops are set too
 //     3 x + 1               how far the number x is from the name: one more than the fewest edges, and 0 where it is not reached

@@ -68,7 +68,6 @@ module _ (s : List ℕ) (end : ℕ) where
   -- the first reference from `at` on is at p, and the others come behind its names
   pub record Split (at p : ℕ) : Type 0 where
     pub rest : referencesFrom s at end ≡ p ∷ referencesFrom s (p + 1 + 2 * length (pathAt s p)) end
-    pub here : referencesFrom s p end ≡ referencesFrom s at end
     pub from : at ≤ p
     pub before : p < end
 
@@ -95,11 +94,11 @@ module _ (s : List ℕ) (end : ℕ) where
         go : (x : Option ℕ) → namesIn (formAt s at) ≡ x → referencesFrom s at end ≡ also x at (referencesFrom s (recordEnd (formAt s at) s at) end) → Split at p
         go none n q =
             let g = later (e ∙ ap foundOf q) in
-            record { rest = q ∙ g .rest; here = g .here ∙ sym q; from = omega (arith, g .from, record-forward s at); before = g .before }
+            record { rest = q ∙ g .rest; from = omega (arith, g .from, record-forward s at); before = g .before }
         go (some k) n q =
             let i : p ≡ at = at-same (e ∙ ap foundOf q) in
             let b : recordEnd (formAt s at) s at ≡ p + 1 + 2 * length (pathAt s p) = names-end (formAt s at) at k n ∙ rw (i, path-is s at k n .1) in
-            record { rest = q ∙ ap₂ (λ x y. x ∷ referencesFrom s y end) (sym i) b; here = ap (λ x. referencesFrom s x end) i; from = omega arith; before = omega arith }
+            record { rest = q ∙ ap₂ (λ x y. x ∷ referencesFrom s y end) (sym i) b; from = omega arith; before = omega arith }
           where
             at-same : {x y : ℕ} → At x ≡ At y → x ≡ y
             at-same e = cc

@@ -1,12 +1,14 @@
 -- Writing violations one behind the other.
 use Prim.Native.Nat.{ℕ, zero, suc, _+_, _*_, _-_, _≤_, _<_}
 use native.Mathlib.Omega.{arith}
-use mathlib.Core.Bool.{Bool, true, false}
+use mathlib.Core.Bool.{Bool, true, false, false≢true}
 use mathlib.Core.Option.{Option, none, some}
 use mathlib.Core.Path.{_≡_, refl, sym, ap, subst, _∙_}
 use mathlib.Core.List.{List, [], _∷_, _++_, append-nil, map}
 use lib.Dec.{T, leb, leb→le, ltb}
-use borrow.Author.Tests.{lt-ltb, ltb-false}
+use borrow.Author.Tests.{lt-ltb}
+use native.Mathlib.Decide.{decLt}
+use mathlib.Core.Logic.{by-cases}
 use lib.ListN.{length, getD, take, length-append, length-take}
 use lib.Seq.{length-take-le}
 use Rattle.names.specs.Documents.{bytes}
@@ -280,14 +282,14 @@ module _ {s : List ℕ} {n : ℕ} {wanted : Bool} {list : List ℕ} {c : Check} 
     pub meant-room : {p : Position} → Room p (push (violationOf s i n (w .meant) c) []) → Room p (push (violationOf s i n list c) [])
     meant-room r = record { far = r .far; few = omega (arith, r .few, same .1) }
 
-    pub meant-wrote : {out out′ : List ℕ} {p q : Position} → wanted ≡ ltb (p .at) (length out) → Wrote (push (violationOf s i n list c) []) out p out′ q
+    pub meant-wrote : {out out′ : List ℕ} {p q : Position} → (p .at < length out → wanted ≡ true) → Wrote (push (violationOf s i n list c) []) out p out′ q
         → Wrote (push (violationOf s i n (w .meant) c) []) out p out′ q
     meant-wrote {out} {out′} {p} {q} e r = go wanted refl
       where
         go : (t : Bool) → wanted ≡ t → Wrote (push (violationOf s i n (w .meant) c) []) out p out′ q
         go true z = subst (λ l. Wrote (push (violationOf s i n l c) []) out p out′ q) (sym (w .same z)) r
         go false z = record {
-          puts = puts-alike (ltb-false (p .at) (length out) (sym e ∙ z)) (sym (same .0)) (r .puts);
+          puts = puts-alike (by-cases (decLt (p .at) (length out)) (λ (l : p .at < length out). absurd (false≢true (sym z ∙ e l))) (λ (l : ¬ (p .at < length out)). omega arith)) (sym (same .0)) (r .puts);
           counts = omega (arith, r .counts, same .1);
           short = omega (arith, r .short, same .0, same .1);
         }

@@ -61,7 +61,7 @@ pub record Room (p : Position) (vs : List Violation) : Type 0 where
   pub far : p .at ≤ 3 + recordLimit * p .count
   pub few : p .count + length vs ≤ 65535
 
--- the definition is one of the bundle's: its number, and that its name is defined
+-- the number is one that a definition can have, and the name is defined
 pub record Among (s : List ℕ) (subject : Subject) : Type 0 where
   pub number : subject .number < definitionLimit
   pub defined : definitionOf (bundleOf s) (subject .name) < length (bundleOf s .definitions)

@@ -1,9 +1,7 @@
 -- `field_index::last_in` meets its contract: from k on no place holds x.
-use Prim.Native.Nat.{ℕ, _+_, _-_, _≤_, _<_}
+use Prim.Native.Nat.{_+_, _-_}
 use mathlib.Core.Path.{_≡_}
-use mathlib.Core.List.{List}
 use native.Mathlib.Omega.{arith}
-use lib.ListN.{getD}
 use borrow.Author.Needs.{needs}
 use Rattle.field_index.proofs.Shown.{LacksFrom, lacks-here, lacks-more}
 use Rattle.field_index.proofs.last_in.Statement.{statement}

@@ -57,14 +57,14 @@ mul-places-2 : tie.Need-mul-places-2
 mul-places-2 c = search needs
 
 slice-write-places-2 : tie.Need-slice-write-places-2
-slice-write-places-2 c = let a = c .before .before .before .before .before .before .before .before in simp length-set (omega (arith, few (a .pre .0) (a .pre .1) (a .pre .2), a .pre .2 .noted .size))
+slice-write-places-2 c = let a = c .before .before .before .before .before .before .before .before in simp length-set (omega (arith, few (a .pre .0) (a .pre .1) (a .pre .2), a .pre .2 .below .noted .size))
 
 add-note-fields : tie.Need-add-note-fields
 add-note-fields c = omega (arith, (shape-struct _ _ _ (c .before .before .shape .given .1) (c .before .before .before .before .shape-at .ensures)) .inside)
 
 note-fields-requires : tie.Need-note-fields-requires
 note-fields-requires c κs = let a = c .before .before .before .before .before .before .before .before .before in let g = (shape-struct _ _ _ (c .before .before .before .shape .given .1) (c .before .before .before .before .before .shape-at .ensures)) in let r = room-for (a .pre .0) (a .pre .1) (a .pre .2) g in
-    ((table-set (table-set (a .pre .0) _ 0 (omega arith)) _ _ (omega arith), g .reads), (omega arith, a .pre .2 .from, simp length-set (r .0), r .1))
+    ((table-set (table-set (a .pre .0) _ 0 (omega arith)) _ _ (omega arith), g .reads), (omega arith, a .pre .2 .below .from, simp length-set (r .0), r .1))
 
 add-result : tie.Need-add-result
 add-result c = let a = c .before .before .before .before .before .before .before .before .before .before .before .before in omega (arith, room-for (a .pre .0) (a .pre .1) (a .pre .2) (shape-struct _ _ _ (c .before .before .before .before .before .before .shape .given .1) (c .before .before .before .before .before .before .before .before .shape-at .ensures)) .1)

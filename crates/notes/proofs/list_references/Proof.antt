@@ -3,7 +3,7 @@ use Prim.Native.Nat.{_+_, _-_, _<_}
 use mathlib.Core.Path.{_≡_, refl, _∙_}
 use native.Mathlib.Omega.{arith}
 use lib.ListN.{length, length-set}
-use Rattle.notes.proofs.Stays.{fields-start, room-start}
+use Rattle.notes.proofs.Stays.{room-start}
 use Rattle.notes.proofs.Lists.{Listing, listing-start, listing-room, listing-small, listing-next, listing-end}
 use borrow.Author.Needs.{needs}
 use Rattle.notes.proofs.list_references.Statement.{statement}
@@ -28,10 +28,10 @@ cast-places : tie.Need-cast-places Inv-loop μ-loop
 cast-places c = omega (arith, room-start (c .before .before .pre .0 .table) (c .before .before .pre .1) .small)
 
 slice-write-places : tie.Need-slice-write-places Inv-loop μ-loop
-slice-write-places c = omega (arith, c .before .before .pre .1 .noted .size)
+slice-write-places c = omega (arith, c .before .before .pre .1 .below .noted .size)
 
 loop-holds : tie.Need-loop-holds Inv-loop μ-loop
-loop-holds c = (listing-start (c .before .before .pre .0) (fields-start (c .before .before .pre .1)) (room-start (c .before .before .pre .0 .table) (c .before .before .pre .1)), refl)
+loop-holds c = (listing-start (c .before .before .pre .0) (c .before .before .pre .1 .below) (room-start (c .before .before .pre .0 .table) (c .before .before .pre .1)), refl)
 
 list-definition-requires : tie.Need-list-definition-requires Inv-loop μ-loop
 list-definition-requires c κs =

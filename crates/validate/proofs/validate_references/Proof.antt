@@ -2,6 +2,7 @@
 use Rattle.validate.proofs.validate_references.Statement.{statement}
 use Rattle.validate.proofs.validate_references.Tie as tie
 use borrow.Author.Needs.{needs}
+use borrow.Author.Tests.{lt-ltb}
 use Prim.Native.Nat.{_+_, _-_, _*_}
 use native.Mathlib.Omega.{arith}
 use mathlib.Core.Bool.{false}
@@ -90,7 +91,7 @@ loop-less-2 c = falls (c .before .before .before .before .before .before .before
 
 loop-again-2 : tie.Need-loop-again-2 Inv-loop μ-loop
 loop-again-2 c = let p = (wanted-part (6 * c .before .before .before .before .before .before .before .before .before .before .before .before .before .before .before .before .before .before .before .before .before .before .before .before .before .before .args .layout .edges + 1) (c .before .before .before .before .before .before .before .before .before .check-reference .last .1 .1 .1 .1 .1 .1 .1 .1 .0) (c .before .before .before .before .before .before .before .before .before .check-reference .ensures .0)) in
-    (referencing-next (c .before .before .before .before .before .before .before .before .before .before .before .before .before .before .before .before .before .before .before .loop .inv .0) (reference-is _ _ _ (c .before .before .before .before .before .before .before .before .before .before .before .before .before .before .before .reference .given .1) (c .before .before .before .before .before .before .before .before .before .before .before .before .before .before .before .before .before .reference-at .ensures)) _ (p .holds .means _) (c .before .before .before .before .before .before .before .before .before .check-reference .kept .1 .1 .1 .1 .1 .1 .1 .1 .0) (meant-wrote p _ refl (c .before .before .put-check .ensures)), c .before .before .before .before .before .before .before .before .before .check-reference .ensures .1, c .before .before .before .before .before .before .before .before .before .check-reference .ensures .2, c .before .before .before .before .before .before .before .before .before .check-reference .ensures .3)
+    (referencing-next (c .before .before .before .before .before .before .before .before .before .before .before .before .before .before .before .before .before .before .before .loop .inv .0) (reference-is _ _ _ (c .before .before .before .before .before .before .before .before .before .before .before .before .before .before .before .reference .given .1) (c .before .before .before .before .before .before .before .before .before .before .before .before .before .before .before .before .before .reference-at .ensures)) _ (p .holds .means _) (c .before .before .before .before .before .before .before .before .before .check-reference .kept .1 .1 .1 .1 .1 .1 .1 .1 .0) (meant-wrote p _ (lt-ltb _ _) (c .before .before .put-check .ensures)), c .before .before .before .before .before .before .before .before .before .check-reference .ensures .1, c .before .before .before .before .before .before .before .before .before .check-reference .ensures .2, c .before .before .before .before .before .before .before .before .before .check-reference .ensures .3)
 
 same-length-3 : tie.Need-same-length-3 Inv-loop μ-loop
 same-length-3 c = c .before .loop .inv .0 .list-size ∙ length-set (c .before .before .before .before .before .before .before .before .args .work .now) 0 0
