@@ -5,17 +5,19 @@ use mathlib.Core.Bool.{Bool, true, false}
 use mathlib.Core.Option.{none}
 use mathlib.Core.Path.{_≡_, refl, ap, _∙_}
 use mathlib.Core.List.{List}
-use lib.ListN.{getD}
+use lib.Dec.{eqb}
+use lib.ListN.{length, getD}
 use Rattle.meaning.specs.Lists.{lastIndex, holds}
-use Rattle.meaning.specs.Lookup.{asStruct, findType}
+use Rattle.meaning.specs.Lookup.{asStruct, definitionOf, findType}
 use Rattle.meaning.specs.Sizes.{isEnumWithConstantSizeVariants}
 use Rattle.meaning.specs.Tree.{Ty, primitive, typeRef, struct, union, enum, array, sizeUnion}
 use Rattle.meaning.specs.Violations.{isEnumReferencingSameContainerStruct, structOf}
 use Rattle.bundle.specs.Definitions.{typeAt, bundleOf, Table}
+use Rattle.bundle.proofs.LookupLaws.{found-type, found-none}
 use Rattle.fields.specs.Shapes.{DefinitionIs}
 use Rattle.fields.specs.Sought.{refers, shown}
 use Rattle.fields.proofs.Lookups.{definition-placed}
-use Rattle.field_index.specs.Noted.{leadIs, fieldsOf, fieldsAt}
+use Rattle.field_index.specs.Noted.{leadIs, fieldsOf, fieldsAt, constantsAt, markOf, ConstantsNoted}
 use Rattle.containers.specs.Containers.{LeadFor, lastHeld, heldIn, containerShown}
 use Rattle.containers.proofs.Containing.{last-held}
 
@@ -63,3 +65,18 @@ shown-no s e x {r} p l = go (isEnumReferencingSameContainerStruct (bundleOf s) e
     go : (t : Bool) → isEnumReferencingSameContainerStruct (bundleOf s) e x ≡ t → false ≡ t
     go true q = let z : r ≡ heldIn (bundleOf s) e x + 2 = p ∙ rw q refl in absurd (omega arith)
     go false q = refl
+
+-- whether the variants of e are of constant size, by what is noted of its first definition
+mark-is : (b : Bool) → eqb (markOf b) 1 ≡ b
+mark-is true = refl
+mark-is false = refl
+
+module _ {s : List ℕ} {n : ℕ} {places : List ℕ} (t : Table s n places) (e : ℕ) {i : ℕ} (q : i ≡ definitionOf (bundleOf s) e) where
+  pub constant-none : n ≤ i → false ≡ holds isEnumWithConstantSizeVariants (findType (bundleOf s) e)
+  constant-none l = rw (found-none t i e q l) refl
+
+  pub constant-noted : ConstantsNoted s places n → i < n → eqb (getD places (constantsAt + i) 0) 1 ≡ holds isEnumWithConstantSizeVariants (findType (bundleOf s) e)
+  constant-noted o l = rw (found-type t i e q l, o .each i l) (mark-is (isEnumWithConstantSizeVariants (typeAt 24 s (getD places i 0))))
+
+  pub constant-there : ConstantsNoted s places n → i < n → constantsAt + i < length places
+  constant-there o l = omega (arith, o .size, t .count, t .placed .room)

@@ -1,6 +1,6 @@
 -- What is kept of an enum and the names to which its tag refers.
 use Prim.Native.Nat.{ℕ, _+_, _-_, _<_}
-use mathlib.Core.Bool.{Bool, true, false, not, cond, _&&_}
+use mathlib.Core.Bool.{Bool, not, cond, _&&_}
 use mathlib.Core.List.{List, [], _∷_}
 use mathlib.Core.Option.{Option, none, some}
 use mathlib.Core.Path.{_≡_}
@@ -16,10 +16,14 @@ use Rattle.meaning.specs.Reader.{little}
 use Rattle.bundle.specs.Definitions.{typeAt, bundleOf}
 use Rattle.fields.specs.Sought.{refers, shown}
 
+-- the name e is defined
+abbrev pub Defined : List ℕ → ℕ → Type 0
+Defined s e = definitionOf (bundleOf s) e < length (bundleOf s .definitions)
+
 -- the name e is defined, and x is one more than the number of its first definition
 pub record LeadFor (s : List ℕ) (e x : ℕ) : Type 0 where
   pub number : x ≡ definitionOf (bundleOf s) e + 1
-  pub defined : definitionOf (bundleOf s) e < length (bundleOf s .definitions)
+  pub defined : Defined s e
 
 -- the type is a struct with a field that is a TypeRef to e
 abbrev pub holdsRef : ℕ → Ty → Bool
@@ -46,15 +50,8 @@ containerShown b e x = cond (isEnumReferencingSameContainerStruct b e x) (heldIn
 abbrev pub isBefore : Bundle → ℕ → ℕ → ℕ → Bool
 isBefore b e x f = holds (standsBefore e (f ∷ [])) (structOf b x) && not (holds isEnumWithConstantSizeVariants (findType b e))
 
--- how an answer for the enum is kept
-abbrev pub markOf : Bool → ℕ
-markOf true = 2
-markOf false = 1
-
--- the name e is defined; `known` has the answers of the enum e, for names by their first definitions, and 0 where one is not known yet; behind
--- them it has whether the variants of e are of constant size, 1 for no and 2 for yes
+-- the name e is defined; `known` has the answers of the enum e, for names by their first definitions, and 0 where one is not known yet
 pub record Known (s : List ℕ) (e : ℕ) (known : List ℕ) : Type 0 where
-  pub size : length known ≡ definitionLimit + 1
-  pub defined : definitionOf (bundleOf s) e < length (bundleOf s .definitions)
+  pub size : length known ≡ definitionLimit
+  pub defined : Defined s e
   pub each : (i : ℕ) → i < definitionLimit → 0 < getD known i 0 → (x : ℕ) → definitionOf (bundleOf s) x ≡ i → getD known i 0 ≡ containerShown (bundleOf s) e x
-  pub constant : (t : Bool) → getD known definitionLimit 0 ≡ markOf t → t ≡ holds isEnumWithConstantSizeVariants (findType (bundleOf s) e)

@@ -8,34 +8,19 @@ ghost use Rattle.meaning.specs.Lookup.{findType};
 ghost use Rattle.meaning.specs.Sizes.{isEnumWithConstantSizeVariants};
 ghost use Rattle.meaning.specs.Violations.{isEnumReferencingSameContainerStruct};
 ghost use Rattle.bundle.specs.Definitions.{bundleOf, Table};
-ghost use Rattle.field_index.specs.Noted.{FieldsNoted};
-ghost use Rattle.containers.specs.Containers.{LeadFor, containsAt, heldIn, containerShown, isBefore, markOf, Known};
+ghost use Rattle.field_index.specs.Noted.{ConstantsNoted, FieldsNoted, DefinitionsNoted};
+ghost use Rattle.containers.specs.Containers.{Defined, LeadFor, containsAt, heldIn, containerShown, isBefore, Known};
 
-// Answers that are kept: one for each definition's name, and one for the enum.
-pub const KNOWN: usize = bundle::DEFINITIONS + 1;
-
-// How an answer for the enum is kept.
-fn mark_of(holds: bool) -> u16
-    ensures { λ r. ⌜ r ≡ markOf holds ⌝ }
+// Whether the enum's variants are of constant size, as it is noted of its first definition.
+fn is_constant(s: &[u8], places: &[u16], count: usize, name: u16) -> bool
+    requires { ⌜ Table (now s) count (now places) × ConstantsNoted (now s) (now places) count ⌝ }
+    ensures { λ r. ⌜ r ≡ holds isEnumWithConstantSizeVariants (findType (bundleOf (now (s .entry))) name) ⌝ }
 {
-    if holds { 2 } else { 1 }
-}
-
-// Whether the enum's variants are of constant size; asked once, and then kept.
-fn is_constant(s: &[u8], places: &[u16], count: usize, known: &mut [u16; KNOWN], name: u16) -> bool
-    requires { ⌜ Table (now s) count (now places) × Known (now s) name (now known) ⌝ }
-    ensures { λ r. ⌜ (r ≡ holds isEnumWithConstantSizeVariants (findType (bundleOf (now (s .entry))) name)) × Known (now (s .entry)) name (now (known .exit)) ⌝ }
-{
-    let kept = known[bundle::DEFINITIONS];
-    if kept == 1 {
+    let i = lookup::definition_of(s, places, count, name);
+    if count <= i {
         return false;
     }
-    if kept == 2 {
-        return true;
-    }
-    let constant = fields::has_constant_size_variants(s, places, count, name);
-    known[bundle::DEFINITIONS] = mark_of(constant);
-    constant
+    places[field_index::CONSTANTS_AT + i] == 1
 }
 
 // Whether definition `i` has the name `container` and is a struct with a field that leads where `lead` says.
@@ -74,19 +59,11 @@ fn is_enum_referencing_same_container_struct(
 
 // One more than the index of the last field that is a TypeRef to the enum, in the first definition of the name `container`, if that is a
 // struct; 0 where there is none, or where the enum's variants are of constant size.
-fn held_in(
-    s: &[u8],
-    places: &[u16],
-    count: usize,
-    known: &mut [u16; KNOWN],
-    name: u16,
-    lead: usize,
-    container: u16,
-) -> usize
-    requires { ⌜ Table (now s) count (now places) × FieldsNoted (now s) (now places) count × (length (now s) ≤ 32768) × Known (now s) name (now known) × LeadFor (now s) name lead ⌝ }
-    ensures { λ r. ⌜ (r ≡ heldIn (bundleOf (now (s .entry))) name container) × (r ≤ 32768) × Known (now (s .entry)) name (now (known .exit)) ⌝ }
+fn held_in(s: &[u8], places: &[u16], count: usize, name: u16, lead: usize, container: u16) -> usize
+    requires { ⌜ Table (now s) count (now places) × DefinitionsNoted (now s) (now places) count × (length (now s) ≤ 32768) × LeadFor (now s) name lead ⌝ }
+    ensures { λ r. ⌜ (r ≡ heldIn (bundleOf (now (s .entry))) name container) × (r ≤ 32768) ⌝ }
 {
-    if is_constant(s, places, count, known, name) {
+    if is_constant(s, places, count, name) {
         return 0;
     }
     let found = fields::find_definition(s, places, count, container);
@@ -97,20 +74,13 @@ fn held_in(
 }
 
 // Two more than that, where some definition of the name is a struct with a field that is a TypeRef to the enum; 1 where none is.
-fn answer_for(
-    s: &[u8],
-    places: &[u16],
-    count: usize,
-    known: &mut [u16; KNOWN],
-    name: u16,
-    container: u16,
-) -> usize
-    requires { ⌜ Table (now s) count (now places) × FieldsNoted (now s) (now places) count × (length (now s) ≤ 32768) × Known (now s) name (now known) ⌝ }
-    ensures { λ r. ⌜ (r ≡ containerShown (bundleOf (now (s .entry))) name container) × (0 < r) × (r ≤ 32770) × Known (now (s .entry)) name (now (known .exit)) ⌝ }
+fn answer_for(s: &[u8], places: &[u16], count: usize, name: u16, container: u16) -> usize
+    requires { ⌜ Table (now s) count (now places) × DefinitionsNoted (now s) (now places) count × (length (now s) ≤ 32768) × Defined (now s) name ⌝ }
+    ensures { λ r. ⌜ (r ≡ containerShown (bundleOf (now (s .entry))) name container) × (0 < r) × (r ≤ 32770) ⌝ }
 {
     let lead = lookup::definition_of(s, places, count, name) + 1;
     if is_enum_referencing_same_container_struct(s, places, count, lead, container) {
-        return held_in(s, places, count, known, name, lead, container) + 2;
+        return held_in(s, places, count, name, lead, container) + 2;
     }
     1
 }
@@ -127,22 +97,22 @@ pub fn container_of(
     s: &[u8],
     places: &[u16],
     count: usize,
-    known: &mut [u16; KNOWN],
+    known: &mut [u16; bundle::DEFINITIONS],
     name: u16,
     container: u16,
 ) -> usize
-    requires { ⌜ Table (now s) count (now places) × FieldsNoted (now s) (now places) count × (length (now s) ≤ 32768) × Known (now s) name (now known) ⌝ }
+    requires { ⌜ Table (now s) count (now places) × DefinitionsNoted (now s) (now places) count × (length (now s) ≤ 32768) × Known (now s) name (now known) ⌝ }
     ensures { λ r. ⌜ (r ≡ containerShown (bundleOf (now (s .entry))) name container) × (0 < r) × Known (now (s .entry)) name (now (known .exit)) ⌝ }
 {
     let i = lookup::definition_of(s, places, count, container);
     if count <= i {
-        return answer_for(s, places, count, known, name, container);
+        return answer_for(s, places, count, name, container);
     }
     let kept = known[i];
     if 0 < kept {
         return size_of(kept);
     }
-    let answer = answer_for(s, places, count, known, name, container);
+    let answer = answer_for(s, places, count, name, container);
     known[i] = answer as u16;
     answer
 }

@@ -19,7 +19,7 @@ ghost use Rattle.search.specs.Work.{listIn, Lent, IfWanted};
 ghost use Rattle.sizes.specs.Paths.{Fit};
 ghost use Rattle.sizes.specs.Scan.{pathAt};
 ghost use Rattle.sizes.specs.Tests.{Acyclic, Kept};
-ghost use Rattle.field_index.specs.Noted.{FieldsNoted};
+ghost use Rattle.field_index.specs.Noted.{DefinitionsNoted};
 ghost use Rattle.containers.specs.Containers.{heldIn, Known};
 ghost use Rattle.checks.specs.Checks.{targetAt, typePart, Checked, GraphOf, EdgesPrepared};
 
@@ -58,7 +58,7 @@ fn check_enum_forward_reference_in_same_struct(
     path: usize,
     list: &mut [u16],
 ) -> Check
-    requires { ⌜ Table (now s) count (now places) × (container ≡ typePart (now s) path) × FieldsNoted (now s) (now places) count × (held ≡ heldIn (bundleOf (now s)) name container) ⌝ }
+    requires { ⌜ Table (now s) count (now places) × (container ≡ typePart (now s) path) × DefinitionsNoted (now s) (now places) count × (held ≡ heldIn (bundleOf (now s)) name container) ⌝ }
     requires { ⌜ Fit (now s) path × (3 ≤ length (now list)) ⌝ }
     ensures { λ r. ⌜ Checked (now (s .entry)) name (now (list .exit)) r (λ i. checkEnumForwardReferenceInSameStruct (bundleOf (now (s .entry))) i name (targetAt (now (s .entry)) path)) ⌝ }
 {
@@ -98,13 +98,13 @@ pub fn check_enum_tag_layout_cycle(
     places: &[u16],
     layout: Layout,
     kept: &mut [u8; bundle::DEFINITIONS],
-    known: &mut [u16; containers::KNOWN],
+    known: &mut [u16; bundle::DEFINITIONS],
     asked: Asked,
     edges: &[u16],
     work: &mut [u16],
 ) -> Check
     requires { ⌜ EdgesPrepared (now s) layout (now edges) × Lent (layout .edges) (now edges) (asked .name) (now work) × Fit (now s) (asked .path) ⌝ }
-    requires { ⌜ LayoutOf (now s) layout (now places) × Acyclic (now s) × Kept (now s) false (now kept) × FieldsNoted (now s) (now places) (layout .definitions) × Known (now s) (asked .name) (now known) ⌝ }
+    requires { ⌜ LayoutOf (now s) layout (now places) × Acyclic (now s) × Kept (now s) false (now kept) × DefinitionsNoted (now s) (now places) (layout .definitions) × Known (now s) (asked .name) (now known) ⌝ }
     ensures { λ r. ⌜ IfWanted (asked .wanted) (listIn (layout .edges) (now (work .exit))) (λ list. Checked (now (s .entry)) (asked .name) list r (λ i. checkEnumTagLayoutCycle (bundleOf (now (s .entry))) i (asked .name) (pathAt (now (s .entry)) (asked .path)))) × Kept (now (s .entry)) false (now (kept .exit)) × Lent (layout .edges) (now (edges .entry)) (asked .name) (now (work .exit)) × Known (now (s .entry)) (asked .name) (now (known .exit)) ⌝ }
 {
     let count = layout.definitions;

@@ -1,3 +1,4 @@
+pub mod Constants
 pub mod Leads
 pub mod Noting
 pub mod Walking

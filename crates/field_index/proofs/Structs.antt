@@ -16,7 +16,7 @@ use lib.Seq.{getD-set-same, getD-set-other, getD-drop}
 use Rattle.meaning.specs.Lookup.{listOf, asStruct}
 use Rattle.meaning.specs.Tree.{Ty, primitive, typeRef, struct, union, enum, array, sizeUnion}
 use Rattle.names.specs.Names.{inserts}
-use Rattle.bundle.specs.Definitions.{typeAt, bundleOf, Table, definitionNames, namesAt, firstsAt, tableAt, buckets}
+use Rattle.bundle.specs.Definitions.{typeAt, bundleOf, Table, placesEnd, definitionNames, namesAt, firstsAt, tableAt, buckets}
 use Rattle.bundle.proofs.NameLaws.{table-few}
 use Rattle.bundle.proofs.LookupLaws.{place-there, place-ends}
 use Rattle.sizes.specs.Scan.{referencesFrom}
@@ -190,22 +190,22 @@ below-room {s} {n} {places} t o = (omega (arith, o .room, ended n (omega arith),
         omega (arith, e .0, ap (λ k. getD places k 0) next, type-bound 24 (getD places m 0) (getD places (m + 1) 0 - 3) s (omega arith) (e .1))
 
 -- what the places of the definitions say stays with them
-pub table-stays : {s : List ℕ} {n : ℕ} {places u : List ℕ} → Table s n places → Front places u → Table s n u
-table-stays {s} {n} {places} {u} t b =
+pub table-stays : {s : List ℕ} {n : ℕ} {places u : List ℕ} → Table s n places → length u ≡ length places → ((i : ℕ) → i < placesEnd → getD u i 0 ≡ getD places i 0) → Table s n u
+table-stays {s} {n} {places} {u} t long keeps =
     record {
       count = t .count;
       placed = record {
         room = t .placed .room;
-        each = λ i l. rw (b .same i (omega (arith, t .placed .room))) (t .placed .each i l);
-        ends = λ i l. rw (b .same (i + 1) (omega (arith, t .placed .room)), b .same i (omega (arith, t .placed .room))) (t .placed .ends i l);
+        each = λ i l. rw (keeps i (omega (arith, t .placed .room))) (t .placed .each i l);
+        ends = λ i l. rw (keeps (i + 1) (omega (arith, t .placed .room)), keeps i (omega (arith, t .placed .room))) (t .placed .ends i l);
       };
-      size = omega (arith, t .size, b .size);
-      noted = rw (b .same namesAt (omega arith))
+      size = omega (arith, t .size, long);
+      noted = rw (keeps namesAt (omega arith))
           (record {
             count = t .noted .count;
-            first = λ k l. b .same (firstsAt + k) (omega (arith, table-few t)) ∙ t .noted .first k l;
+            first = λ k l. keeps (firstsAt + k) (omega (arith, table-few t)) ∙ t .noted .first k l;
             named = record {
-              all = members-same (drop tableAt u) (t .noted .named .all) same (omega (arith, length-drop {A = ℕ} tableAt u, length-drop {A = ℕ} tableAt places, b .size));
+              all = members-same (drop tableAt u) (t .noted .named .all) same (omega (arith, length-drop {A = ℕ} tableAt u, length-drop {A = ℕ} tableAt places, long));
               each = λ k l. same (buckets + 2 * k) (omega arith) (omega arith) ∙ t .noted .named .each k l;
             };
           });
@@ -213,10 +213,20 @@ table-stays {s} {n} {places} {u} t b =
   where
     same : (i : ℕ) → 0 ≤ i → i < 0 + buckets + 2 * length (inserts [] (take n (definitionNames (bundleOf s)))) → getD (drop tableAt u) i 0 ≡ getD (drop tableAt places) i 0
     same i _ l =
-        getD-drop tableAt u i 0 ∙ b .same (tableAt + i) (omega (arith, l, table-few t, t .noted .count)) ∙ sym (getD-drop tableAt places i 0)
+        getD-drop tableAt u i 0 ∙ keeps (tableAt + i) (omega (arith, l, table-few t, t .noted .count)) ∙ sym (getD-drop tableAt places i 0)
 
 pub table-within : {s : List ℕ} {n : ℕ} {places u : List ℕ} {a b : ℕ} → Table s n places → partsAt ≤ a → Within a b places u → Table s n u
-table-within t l w = table-stays t (record { size = w .size; same = λ i c. w .before i (omega arith) })
+table-within t l w = table-stays t (w .size) (λ i c. w .before i (omega arith))
 
-pub table-set : {s : List ℕ} {n : ℕ} {places : List ℕ} → Table s n places → (k v : ℕ) → startsAt ≤ k → Table s n (set places k v)
-table-set {places = places} t k v l = table-stays t (record { size = length-set places k v; same = λ i c. getD-set-other places k i v 0 (λ z. omega (arith, z)) })
+pub table-set : {s : List ℕ} {n : ℕ} {places : List ℕ} → Table s n places → (k v : ℕ) → placesEnd ≤ k → Table s n (set places k v)
+table-set {places = places} t k v l = table-stays t (length-set places k v) (λ i c. getD-set-other places k i v 0 (λ z. omega (arith, z)))
+
+-- what stays of the places before the starts of parts
+pub front-start : (places : List ℕ) → Front places places
+front-start places = record { size = refl; same = λ i c. refl }
+
+pub front-both : {t u v : List ℕ} → Front t u → Front u v → Front t v
+front-both a b = record { size = b .size ∙ a .size; same = λ i c. b .same i c ∙ a .same i c }
+
+pub table-front : {s : List ℕ} {n : ℕ} {places u : List ℕ} → Table s n places → Front places u → Table s n u
+table-front t b = table-stays t (b .size) (λ i c. b .same i (omega arith))

@@ -11,6 +11,7 @@ use Rattle.meaning.specs.Lists.{firstIndex, lastIndex}
 use Rattle.meaning.specs.Lookup.{listOf, memberName, memberType, asTypeRef, definitionOf}
 use Rattle.meaning.specs.Tree.{Ty, primitive, typeRef, struct, union, enum, array, sizeUnion, Member, Bundle}
 use Rattle.meaning.specs.Limits.{definitionLimit}
+use Rattle.meaning.specs.Sizes.{isEnumWithConstantSizeVariants}
 use Rattle.bundle.specs.Definitions.{typeAt, bundleOf, placesEnd}
 use Rattle.sizes.specs.Scan.{referencesFrom}
 use Rattle.table.specs.Table.{Members, member}
@@ -107,9 +108,13 @@ fieldsOf (sizeUnion a ms) = []
 abbrev pub fieldsAt : List ℕ → List ℕ → ℕ → List Member
 fieldsAt s places i = fieldsOf (typeAt 24 s (getD places i 0))
 
+-- where it stands for each definition whether it is an enum with variants of constant size
+abbrev pub constantsAt : ℕ
+constantsAt = placesEnd
+
 -- where it stands for each definition where its part starts
 abbrev pub startsAt : ℕ
-startsAt = placesEnd
+startsAt = constantsAt + definitionLimit
 
 -- where the parts start; between the two there are places for the lists of references
 abbrev pub partsAt : ℕ
@@ -154,7 +159,22 @@ pub record NotedBelow (s places : List ℕ) (n used : ℕ) : Type 0 where
   pub size : 2 * partsAt + 3 * length s + 9 ≤ 2 * length places
   pub short : length s ≤ 32768
 
--- the places of the definitions stay
+-- how it is noted
+abbrev pub markOf : Bool → ℕ
+markOf true = 1
+markOf false = 0
+
+-- it is noted of n definitions
+pub record ConstantsNoted (s places : List ℕ) (n : ℕ) : Type 0 where
+  pub size : startsAt ≤ length places
+  pub each : (i : ℕ) → i < n → getD places (constantsAt + i) 0 ≡ markOf (isEnumWithConstantSizeVariants (typeAt 24 s (getD places i 0)))
+
+-- that, and the fields of the definitions
+pub record DefinitionsNoted (s places : List ℕ) (n : ℕ) : Type 0 where
+  pub constants : ConstantsNoted s places n
+  pub fields : FieldsNoted s places n
+
+-- what is noted of the definitions but for their fields stays
 pub record Front (places places′ : List ℕ) : Type 0 where
   pub size : length places′ ≡ length places
-  pub same : (i : ℕ) → i < placesEnd → getD places′ i 0 ≡ getD places i 0
+  pub same : (i : ℕ) → i < startsAt → getD places′ i 0 ≡ getD places i 0

@@ -1,6 +1,6 @@
 // The fields of every struct by their names: noted once for a bundle, behind the places of its definitions, and then looked up.
-// Behind those places stands for each definition where its part starts, and 0 where it is no struct or has no field; then come the places
-// where the lists of references start (crate notes), and then the parts. A part has the count of fields and the count of their names, then for each name the index of the first field that has it, then for each the index of the
+// Behind those places stands for each definition whether it is an enum with variants of constant size; then for each where its part starts,
+// and 0 where it is no struct or has no field; then come the places where the lists of references start (crate notes), and then the parts. A part has the count of fields and the count of their names, then for each name the index of the first field that has it, then for each the index of the
 // last, then a table of the names with as many buckets as there are fields, then for each field where its type leads.
 use fields::Shape;
 ghost use mathlib.Core.Path.{_≡_};
@@ -16,10 +16,40 @@ ghost use Rattle.bundle.specs.View.{Reads};
 ghost use Rattle.bundle.specs.Definitions.{typeAt, membersAt, bundleOf, Table};
 ghost use Rattle.fields.specs.Sought.{shown};
 ghost use Rattle.table.specs.Table.{Members, Within};
-ghost use Rattle.field_index.specs.Noted.{nameAt, tableAt, startsAt, partsAt, NotedTo, Part, NotedFor, indexShown, leadShown, leadsOf, LeadsTo, leadIs, LastIn, fieldsAt, FieldsNoted, NotedBelow, Front};
+ghost use Rattle.field_index.specs.Noted.{nameAt, tableAt, startsAt, partsAt, NotedTo, Part, NotedFor, indexShown, leadShown, leadsOf, LeadsTo, leadIs, LastIn, fieldsAt, markOf, ConstantsNoted, FieldsNoted, NotedBelow, Front};
+
+// Where it stands for each definition whether it is an enum with variants of constant size.
+pub const CONSTANTS_AT: usize = bundle::PLACES;
+
+// Where it stands for each definition where its part starts.
+const STARTS_AT: usize = CONSTANTS_AT + bundle::DEFINITIONS;
+
+// Where it stands for each definition where its list of references starts (crate notes).
+pub const LISTS_AT: usize = STARTS_AT + bundle::DEFINITIONS;
 
 // Where the parts start.
-pub const PARTS_AT: usize = bundle::PLACES + 2 * bundle::DEFINITIONS + 1;
+pub const PARTS_AT: usize = LISTS_AT + bundle::DEFINITIONS + 1;
+
+// How it is noted whether a definition is an enum with variants of constant size.
+fn mark_of(constant: bool) -> u16
+    ensures { λ r. ⌜ r ≡ markOf constant ⌝ }
+{
+    if constant { 1 } else { 0 }
+}
+
+// Notes of every definition whether it is an enum with variants of constant size.
+pub fn note_constants(s: &[u8], places: &mut [u16], count: usize)
+    requires { ⌜ Table (now s) count (now places) × (partsAt ≤ length (now places)) ⌝ }
+    ensures { λ _. ⌜ Table (now (s .entry)) count (now (places .exit)) × ConstantsNoted (now (s .entry)) (now (places .exit)) count ⌝ }
+{
+    let mut i = 0;
+    while i < count {
+        let at = places[i] as usize;
+        let constant = sizes::is_enum_with_constant_size_variants(s, at, bundle::DEPTH_LIMIT);
+        places[CONSTANTS_AT + i] = mark_of(constant);
+        i += 1;
+    }
+}
 
 // Notes that field `k` of the `n` has the name `x`, in the part at `a` with `d` names. Returns how many names there are then.
 fn note_name(notes: &mut [u16], a: usize, n: usize, d: usize, k: usize, x: u16) -> usize
@@ -78,23 +108,23 @@ fn note_struct(s: &[u8], places: &mut [u16], count: usize, i: usize, used: usize
 {
     let at = places[i] as usize;
     let shape = fields::shape_at(s, at, bundle::DEPTH_LIMIT);
-    places[bundle::PLACES + i] = 0;
+    places[STARTS_AT + i] = 0;
     let Shape::Struct(n) = shape else {
         return used;
     };
     if n == 0 {
         return used;
     }
-    places[bundle::PLACES + i] = used as u16;
+    places[STARTS_AT + i] = used as u16;
     note_fields(s, count, at + 12, n, places, used);
     used + 2 + 6 * n
 }
 
-// Notes the fields of every struct. What stands behind the places of the definitions before is free. Returns how many places are used.
+// Notes the fields of every struct. What stands behind the places for the constants before is free. Returns how many places are used.
 pub fn note_structs(s: &[u8], places: &mut [u16], count: usize) -> usize
     requires { ⌜ Table (now s) count (now places) × (length (now s) ≤ 32768) ⌝ }
     requires { ⌜ 2 * partsAt + 3 * length (now s) + 9 ≤ 2 * length (now places) ⌝ }
-    ensures { λ r. ⌜ Table (now (s .entry)) count (now (places .exit)) × NotedBelow (now (s .entry)) (now (places .exit)) count r ⌝ }
+    ensures { λ r. ⌜ Table (now (s .entry)) count (now (places .exit)) × NotedBelow (now (s .entry)) (now (places .exit)) count r × Front (now (places .entry)) (now (places .exit)) ⌝ }
 {
     let mut used = PARTS_AT;
     let mut i = 0;
@@ -134,7 +164,7 @@ pub fn index_of(places: &[u16], i: usize, last: bool, x: u16) -> usize
     requires { ⌜ (startsAt + i < length (now places)) × ((ms : List Member) × NotedFor ms (now places) (getD (now places) (startsAt + i) 0)) ⌝ }
     ensures { λ r. ⌜ ((ms : List Member) → NotedFor ms (now (places .entry)) (getD (now (places .entry)) (startsAt + i) 0) → r ≡ indexShown last x ms) ⌝ }
 {
-    let a = places[bundle::PLACES + i] as usize;
+    let a = places[STARTS_AT + i] as usize;
     if a == 0 {
         return 0;
     }
@@ -163,7 +193,7 @@ pub fn last_lead(s: &[u8], places: &[u16], count: usize, i: usize, lead: usize) 
     requires { ⌜ Table (now s) count (now places) × FieldsNoted (now s) (now places) count × (i < count) ⌝ }
     ensures { λ r. ⌜ (r ≡ shown (lastIndex (leadIs (bundleOf (now (s .entry))) lead) (fieldsAt (now (s .entry)) (now (places .entry)) i))) × (4 * r ≤ length (now (s .entry))) ⌝ }
 {
-    let a = places[bundle::PLACES + i] as usize;
+    let a = places[STARTS_AT + i] as usize;
     if a == 0 {
         return 0;
     }

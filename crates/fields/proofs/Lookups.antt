@@ -3,16 +3,15 @@ use Prim.Native.Nat.{ℕ, suc, _<_}
 use native.Mathlib.Decide.{decLt}
 use mathlib.Core.Logic.{by-cases}
 use native.Mathlib.Omega.{arith}
-use mathlib.Core.Bool.{Bool, false}
+use mathlib.Core.Bool.{false}
 use mathlib.Core.Option.{Option, none, some}
 use mathlib.Core.Path.{_≡_, refl, sym, ap, subst, _∙_}
 use mathlib.Core.List.{List}
 use lib.Dec.{ltb}
 use lib.ListN.{getD}
 use borrow.Author.Tests.{lt-ltb, le-ltb}
-use Rattle.meaning.specs.Lists.{holds, precedes}
+use Rattle.meaning.specs.Lists.{precedes}
 use Rattle.meaning.specs.Lookup.{definitionOf, findType}
-use Rattle.meaning.specs.Sizes.{isEnumWithConstantSizeVariants}
 use Rattle.meaning.specs.Violations.{structOf}
 use Rattle.bundle.specs.Definitions.{typeAt, bundleOf, Table}
 use Rattle.bundle.proofs.LookupLaws.{placed-at, found-type}
@@ -44,13 +43,6 @@ definition-no s n x e g = subst (Defines s n x) e g
 pub struct-none : (s : List ℕ) (x : ℕ) → findType (bundleOf s) x ≡ none → structOf (bundleOf s) x ≡ none
 unfolding structOf
 struct-none s x e = rw e
-
-module _ {s : List ℕ} {m x i at : ℕ} (g : DefinitionIs s m x i at) where
-  pub constant-found : (t : Bool) → t ≡ isEnumWithConstantSizeVariants (typeAt 24 s at) → t ≡ holds isEnumWithConstantSizeVariants (findType (bundleOf s) x)
-  constant-found t e = e ∙ rw (g .is)
-
-pub constant-none : (s : List ℕ) (x : ℕ) → findType (bundleOf s) x ≡ none → false ≡ holds isEnumWithConstantSizeVariants (findType (bundleOf s) x)
-constant-none s x e = rw e
 
 -- an index before another, as they are shown
 pub precedes-zero : (o p : Option ℕ) → shown o ≡ 0 → false ≡ precedes o p

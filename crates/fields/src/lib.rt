@@ -6,13 +6,10 @@ use bundle::TypeForm;
 ghost use mathlib.Core.Path.{_≡_};
 ghost use Prim.Native.Nat.{_<_};
 ghost use lib.ListN.{getD};
-ghost use Rattle.meaning.specs.Lists.{holds};
-ghost use Rattle.meaning.specs.Lookup.{findType};
 ghost use Rattle.meaning.specs.ReadType.{readTy, readMember};
-ghost use Rattle.meaning.specs.Sizes.{isEnumWithConstantSizeVariants};
 ghost use Rattle.bundle.specs.declared.Step.the-variants.{Next};
 ghost use Rattle.bundle.specs.View.{Reads, stepOf};
-ghost use Rattle.bundle.specs.Definitions.{bundleOf, Table};
+ghost use Rattle.bundle.specs.Definitions.{Table};
 ghost use Rattle.fields.specs.Shapes.{ShapeOf, FieldAt, PlacedAt, Defines};
 
 // What a type's kind byte and body say: the count of a struct's fields, an array's jagged byte, a TypeRef's name.
@@ -144,16 +141,4 @@ pub fn find_definition(s: &[u8], places: &[u16], count: usize, name: u16) -> Def
     }
     let place = place_of(s, places, count, i);
     Definition::At(i, place.at)
-}
-
-// Whether the first definition of the name is an enum of two variants or more, all primitives of one size.
-pub fn has_constant_size_variants(s: &[u8], places: &[u16], count: usize, name: u16) -> bool
-    requires { ⌜ Table (now s) count (now places) ⌝ }
-    ensures { λ r. ⌜ r ≡ holds isEnumWithConstantSizeVariants (findType (bundleOf (now (s .entry))) name) ⌝ }
-{
-    let found = find_definition(s, places, count, name);
-    let Definition::At(_, at) = found else {
-        return false;
-    };
-    sizes::is_enum_with_constant_size_variants(s, at, bundle::DEPTH_LIMIT)
 }

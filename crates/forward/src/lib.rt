@@ -59,7 +59,7 @@ fn start_in(places: &[u16], i: usize, stopped: u16) -> usize
     if 0 < stopped {
         return stopped as usize;
     }
-    places[notes::LISTS_AT + i] as usize
+    places[field_index::LISTS_AT + i] as usize
 }
 
 // The first such reference in the whole of definition `i`. Since what leads behind an index leads behind those before it too, the
@@ -76,7 +76,7 @@ fn find_forward(
     requires { ⌜ LayoutOf (now s) layout (now places) × (i < layout .definitions) × Seen (now s) (now places) name j (now seen) × Noted (now s) (now places) (layout .definitions) ⌝ }
     ensures { λ r. ⌜ ForwardIn (now (s .entry)) name j (typeAt 24 (now (s .entry)) (getD (now (places .entry)) i 0)) r × Seen (now (s .entry)) (now (places .entry)) name j (now (seen .exit)) ⌝ }
 {
-    let end = places[notes::LISTS_AT + (i + 1)] as usize;
+    let end = places[field_index::LISTS_AT + (i + 1)] as usize;
     let from = start_in(places, i, seen[i]);
     let stop = find_later_field(places, name, j, from, end);
     seen[i] = stop as u16;

@@ -21,10 +21,10 @@ use Rattle.bundle.specs.Opened.{LayoutOf}
 use Rattle.table.specs.Table.{Within}
 use Rattle.sizes.specs.Scan.{referencesFrom, Fits}
 use Rattle.sizes.proofs.ReferenceLaws.{type-fits}
-use Rattle.field_index.specs.Noted.{partsAt, referencesOf, referencesTo, FieldsBelow}
+use Rattle.field_index.specs.Noted.{partsAt, referencesOf, referencesTo, ConstantsNoted, FieldsBelow}
 use Rattle.notes.specs.Notes.{needsReferences, neededOf, Lists, listsAt, listStart, Noted}
 use Rattle.notes.specs.Listing.{RoomFor}
-use Rattle.notes.proofs.Stays.{Stays, kept-within, kept-start, kept-both, layout-kept, fields-kept, fields-more, lists-length, lists-same}
+use Rattle.notes.proofs.Stays.{Stays, kept-within, kept-start, kept-both, layout-kept, constants-kept, fields-kept, fields-more, lists-length, lists-same}
 
 -- there are few definitions
 pub few : {s : List ℕ} {n : ℕ} {places : List ℕ} → Table s n places → n ≤ 256
@@ -75,6 +75,7 @@ module _ (s : List ℕ) {t u : List ℕ} {a : ℕ} (k : Stays t u a) where
 pub record Listing (s : List ℕ) (l : Layout) (u : List ℕ) (used i : ℕ) : Type 0 where
   pub bound : i ≤ l .definitions
   pub layout : LayoutOf s l u
+  pub constants : ConstantsNoted s u (l .definitions)
   pub fields : FieldsBelow s u (l .definitions) used
   pub there : used + 3 * referencesTo s u (l .definitions) ≤ length u + 3 * referencesTo s u i
   pub small : used + 3 * referencesTo s u (l .definitions) < 65536 + 3 * referencesTo s u i
@@ -82,12 +83,13 @@ pub record Listing (s : List ℕ) (l : Layout) (u : List ℕ) (used i : ℕ) : T
   pub inside : (j : ℕ) → j ≤ i → (partsAt ≤ listStart u j) × (listStart u j ≤ used)
   pub each : (j : ℕ) → j < i → Lists s u (listStart u (j + 1)) (listStart u j) (neededOf s u j)
 
-pub listing-start : {s : List ℕ} {l : Layout} {t : List ℕ} {used : ℕ} → LayoutOf s l t → FieldsBelow s t (l .definitions) used → RoomFor t used (referencesTo s t (l .definitions))
+pub listing-start : {s : List ℕ} {l : Layout} {t : List ℕ} {used : ℕ} → LayoutOf s l t → ConstantsNoted s t (l .definitions) → FieldsBelow s t (l .definitions) used → RoomFor t used (referencesTo s t (l .definitions))
     → Listing s l (set t listsAt used) used 0
-listing-start {s} {l} {t} {used} o f r =
+listing-start {s} {l} {t} {used} o k f r =
     record {
       bound = omega arith;
       layout = layout-kept kept o;
+      constants = constants-kept (few (o .table)) kept k;
       fields = fields-kept (few (o .table)) kept f;
       there = omega (arith, r .there, same, kept .size);
       small = omega (arith, r .small, same);
@@ -116,7 +118,7 @@ module _ {s : List ℕ} {l : Layout} {u : List ℕ} {used i : ℕ} (c : Listing 
       let all = refs-more s u i (l .definitions) (c .bound) in (
         c .layout,
         record {
-          fields = c .fields .noted;
+          definitions = record { constants = c .constants; fields = c .fields .noted };
           references = record {
             size = omega (arith, few (c .layout .table), c .fields .noted .size);
             each = λ j d. c .each j (omega arith);
@@ -183,6 +185,7 @@ module _ {s : List ℕ} {l : Layout} {u : List ℕ} {used i : ℕ} (c : Listing 
         record {
           bound = omega arith;
           layout = layout-kept kept (c .layout);
+          constants = constants-kept (few (c .layout .table)) kept (c .constants);
           fields = fields-more (omega (arith, long)) (fields-kept (few (c .layout .table)) kept (c .fields));
           there = omega (arith, all, now, one, c .there, long, needed-few s u i, kept .size);
           small = omega (arith, all, now, one, c .small, long, needed-few s u i);

@@ -14,7 +14,8 @@ use Rattle.bundle.specs.declared.Layout.{Layout}
 use Rattle.bundle.specs.Definitions.{typeAt, bundleOf, Table}
 use Rattle.bundle.specs.Opened.{LayoutOf}
 use Rattle.table.specs.Table.{Within}
-use Rattle.field_index.specs.Noted.{startsAt, partsAt, partOf, leadsOf, fieldsOf, fieldsAt, referencesTo, FieldsBelow, NotedBelow}
+use Rattle.field_index.specs.Noted.{startsAt, partsAt, partOf, leadsOf, fieldsOf, fieldsAt, referencesTo, ConstantsNoted, FieldsBelow, NotedBelow}
+use Rattle.field_index.proofs.Constants.{constants-stay}
 use Rattle.field_index.proofs.Structs.{below-room, table-stays}
 use Rattle.field_index.proofs.Walking.{for-same, leads-same}
 use Rattle.notes.specs.Notes.{Entry, Lists, listsAt}
@@ -49,7 +50,10 @@ pub layout-table : {s : List ℕ} {l : Layout} {t u : List ℕ} → LayoutOf s l
 layout-table o t = record { small = o .small; read = o .read; table = t; edges = o .edges; few = o .few; current = o .current; from = o .from }
 
 pub layout-kept : {s : List ℕ} {l : Layout} {t u : List ℕ} {a : ℕ} → Stays t u a → LayoutOf s l t → LayoutOf s l u
-layout-kept k o = layout-table o (table-stays (o .table) (record { size = k .size; same = λ i c. k .front i (omega arith) }))
+layout-kept k o = layout-table o (table-stays (o .table) (k .size) (λ i c. k .front i (omega arith)))
+
+pub constants-kept : {s : List ℕ} {n : ℕ} {t u : List ℕ} {a : ℕ} → n ≤ definitionLimit → Stays t u a → ConstantsNoted s t n → ConstantsNoted s u n
+constants-kept few k o = constants-stay few (record { size = k .size; same = λ i c. k .front i (omega arith) }) o
 
 -- the notes of the fields
 pub room-start : {s places : List ℕ} {n used : ℕ} → Table s n places → NotedBelow s places n used → RoomFor places used (referencesTo s places n)

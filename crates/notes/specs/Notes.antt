@@ -16,7 +16,7 @@ use Rattle.meaning.specs.Violations.{structOf}
 use Rattle.bundle.specs.Definitions.{typeAt, bundleOf}
 use Rattle.sizes.specs.Scan.{Fits}
 use Rattle.fields.specs.Sought.{shown}
-use Rattle.field_index.specs.Noted.{startsAt, referencesOf, FieldsNoted}
+use Rattle.field_index.specs.Noted.{startsAt, referencesOf, DefinitionsNoted}
 use Rattle.checks.specs.Checks.{targetAt}
 
 -- the type is an array of constant size
@@ -71,7 +71,7 @@ pub record Listed (s places : List ℕ) (n : ℕ) : Type 0 where
   pub fits : (i : ℕ) → i < n → Fits s (neededOf s places i)
   pub within : (i : ℕ) → i < n → listStart places (i + 1) ≤ length places
 
--- the fields and the references of n definitions are noted
+-- what is noted of n definitions, with the references that they need
 pub record Noted (s places : List ℕ) (n : ℕ) : Type 0 where
-  pub fields : FieldsNoted s places n
+  pub definitions : DefinitionsNoted s places n
   pub references : Listed s places n

@@ -16,13 +16,10 @@ ghost use Rattle.bundle.specs.Opened.{LayoutOf};
 ghost use Rattle.table.specs.Table.{Within};
 ghost use Rattle.sizes.specs.Paths.{Fit};
 ghost use Rattle.sizes.specs.Scan.{referencesFrom, Fits};
-ghost use Rattle.field_index.specs.Noted.{partsAt, referencesOf, FieldsNoted, FieldsBelow, NotedBelow};
+ghost use Rattle.field_index.specs.Noted.{partsAt, referencesOf, ConstantsNoted, FieldsNoted, FieldsBelow, NotedBelow};
 ghost use Rattle.checks.specs.Checks.{targetAt, typePart};
 ghost use Rattle.notes.specs.Notes.{isConstantArray, needsReferences, neededOf, indexFor, Entry, Lists, Noted};
 ghost use Rattle.notes.specs.Listing.{RoomFor};
-
-// Where it stands for each definition where its list starts.
-pub const LISTS_AT: usize = bundle::PLACES + bundle::DEFINITIONS;
 
 // Whether the type that was read at `at` is an array of constant size.
 fn is_constant_array(s: &[u8], at: usize) -> bool
@@ -117,25 +114,26 @@ fn list_definition(s: &[u8], places: &mut [u16], layout: Layout, i: usize, used:
 
 // Lists the references that each definition needs, behind the notes of the fields, which end at `used`.
 fn list_references(s: &[u8], places: &mut [u16], layout: Layout, used: usize)
-    requires { ⌜ LayoutOf (now s) layout (now places) × NotedBelow (now s) (now places) (layout .definitions) used ⌝ }
+    requires { ⌜ LayoutOf (now s) layout (now places) × NotedBelow (now s) (now places) (layout .definitions) used × ConstantsNoted (now s) (now places) (layout .definitions) ⌝ }
     ensures { λ _. ⌜ LayoutOf (now (s .entry)) layout (now (places .exit)) × Noted (now (s .entry)) (now (places .exit)) (layout .definitions) ⌝ }
 {
-    places[LISTS_AT] = used as u16;
+    places[field_index::LISTS_AT] = used as u16;
     let mut to = used;
     let mut i = 0;
     while i < layout.definitions {
         to = list_definition(s, places, layout, i, to);
         i += 1;
-        places[LISTS_AT + i] = to as u16;
+        places[field_index::LISTS_AT + i] = to as u16;
     }
 }
 
-// Notes the fields of every struct and the references that each definition needs. What stands behind the places of the definitions before
+// Notes which definitions are enums with variants of constant size, the fields of every struct and the references that each definition needs. What stands behind the places of the definitions before
 // is free.
 pub fn note(s: &[u8], places: &mut [u16], layout: Layout)
     requires { ⌜ LayoutOf (now s) layout (now places) × (2 * partsAt + 3 * length (now s) + 9 ≤ 2 * length (now places)) ⌝ }
     ensures { λ _. ⌜ LayoutOf (now (s .entry)) layout (now (places .exit)) × Noted (now (s .entry)) (now (places .exit)) (layout .definitions) ⌝ }
 {
+    field_index::note_constants(s, places, layout.definitions);
     let used = field_index::note_structs(s, places, layout.definitions);
     list_references(s, places, layout, used);
 }

@@ -9,7 +9,6 @@ use lib.ListN.{length, getD, take}
 use Rattle.names.specs.Documents.{bytes}
 use Rattle.meaning.specs.Limits.{definitionLimit, edgeLimit}
 use Rattle.meaning.specs.Lists.{filterMap, flatMap, onlyIf}
-use Rattle.meaning.specs.Lookup.{definitionOf}
 use Rattle.meaning.specs.Report.{violationItems}
 use Rattle.meaning.specs.Tree.{Bundle}
 use Rattle.meaning.specs.Violations.{Violation, violation, checkEnumTagLayoutCycle, checkArraySizeLayoutCycle, validateType}
@@ -17,6 +16,7 @@ use Rattle.violation.specs.declared.Path.{Path}
 use Rattle.violation.specs.declared.Record.{Record}
 use Rattle.violation.specs.Records.{Puts, padded}
 use Rattle.checks.specs.declared.Check.{Check}
+use Rattle.containers.specs.Containers.{Defined}
 use Rattle.checks.specs.Checks.{violationOf, Fitting}
 use Rattle.meaning.specs.Reader.{little}
 use Rattle.bundle.specs.Definitions.{bundleOf, typeAt}
@@ -64,7 +64,7 @@ pub record Room (p : Position) (vs : List Violation) : Type 0 where
 -- the number is one that a definition can have, and the name is defined
 pub record Among (s : List ℕ) (subject : Subject) : Type 0 where
   pub number : subject .number < definitionLimit
-  pub defined : definitionOf (bundleOf s) (subject .name) < length (bundleOf s .definitions)
+  pub defined : Defined s (subject .name)
 
 -- the check of one reference: of an enum's tag, or of an array's size
 abbrev pub checkReference : Bool → Bundle → ℕ → ℕ → List ℕ → Option Violation

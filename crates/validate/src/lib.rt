@@ -19,7 +19,7 @@ ghost use Rattle.sizes.specs.Paths.{Fit};
 ghost use Rattle.sizes.specs.Scan.{pathAt, referencesFrom, Fits};
 ghost use Rattle.sizes.specs.Tests.{Acyclic, Kept};
 ghost use Rattle.violation.specs.Records.{padded};
-ghost use Rattle.field_index.specs.Noted.{FieldsNoted};
+ghost use Rattle.field_index.specs.Noted.{DefinitionsNoted};
 ghost use Rattle.containers.specs.Containers.{Known};
 ghost use Rattle.checks.specs.Checks.{violationOf, Fitting, Checked, EdgesPrepared};
 ghost use Rattle.validate.specs.Validating.{Among, Recorded, Wrote, Room, recordWith, pathOfTwo, checkReference, foundIn};
@@ -151,14 +151,14 @@ fn check_reference(
     places: &[u16],
     layout: Layout,
     kept: &mut [u8; bundle::DEFINITIONS],
-    known: &mut [u16; containers::KNOWN],
+    known: &mut [u16; bundle::DEFINITIONS],
     tag: bool,
     asked: Asked,
     edges: &[u16],
     work: &mut [u16],
 ) -> Check
     requires { ⌜ EdgesPrepared (now s) layout (now edges) × Lent (layout .edges) (now edges) (asked .name) (now work) × Fit (now s) (asked .path) ⌝ }
-    requires { ⌜ LayoutOf (now s) layout (now places) × Acyclic (now s) × Kept (now s) false (now kept) × FieldsNoted (now s) (now places) (layout .definitions) × Known (now s) (asked .name) (now known) ⌝ }
+    requires { ⌜ LayoutOf (now s) layout (now places) × Acyclic (now s) × Kept (now s) false (now kept) × DefinitionsNoted (now s) (now places) (layout .definitions) × Known (now s) (asked .name) (now known) ⌝ }
     ensures { λ r. ⌜ IfWanted (asked .wanted) (listIn (layout .edges) (now (work .exit))) (λ list. Checked (now (s .entry)) (asked .name) list r (λ i. checkReference tag (bundleOf (now (s .entry))) i (asked .name) (pathAt (now (s .entry)) (asked .path)))) × Kept (now (s .entry)) false (now (kept .exit)) × Lent (layout .edges) (now (edges .entry)) (asked .name) (now (work .exit)) × Known (now (s .entry)) (asked .name) (now (known .exit)) ⌝ }
 {
     if tag {
@@ -191,7 +191,7 @@ pub fn validate_references(
     position: Position,
 ) -> Position
     requires { ⌜ EdgesPrepared (now s) layout (now edges) × (7 * layout .edges + 5 ≤ length (now work)) ⌝ }
-    requires { ⌜ LayoutOf (now s) layout (now places) × Acyclic (now s) × Kept (now s) false (now kept) × Among (now s) subject × FieldsNoted (now s) (now places) (layout .definitions) ⌝ }
+    requires { ⌜ LayoutOf (now s) layout (now places) × Acyclic (now s) × Kept (now s) false (now kept) × Among (now s) subject × DefinitionsNoted (now s) (now places) (layout .definitions) ⌝ }
     requires { ⌜ (references .end ≤ length (now s)) × Fits (now s) (referencesFrom (now s) (references .at) (references .end)) × Room position (foundIn (now s) subject references) ⌝ }
     ensures { λ r. ⌜ Wrote (foundIn (now (s .entry)) subject references) (now (out .entry)) position (now (out .exit)) r × Kept (now (s .entry)) false (now (kept .exit)) ⌝ }
 {
@@ -199,7 +199,7 @@ pub fn validate_references(
     let name = subject.name;
     let end = references.end;
     let list = 6 * layout.edges + 1;
-    let mut known = [0u16; containers::KNOWN];
+    let mut known = [0u16; bundle::DEFINITIONS];
     work[0] = 0;
     let mut next = references.at;
     let mut reached = position;

@@ -25,13 +25,13 @@ add-result c = search needs
 
 returns : tie.Need-returns
 returns c =
-    let l = lead-for (c .before .before .before .before .before .before .before .pre .3) (c .before .before .before .before .definition-of .ensures) in
-    (shown-holds _ _ _ (sym (c .before .before .if1 .taken) ∙ c .before .before .before .is-enum-referencing-same-container-struct .ensures _ l) (c .held-in .ensures .0), omega arith, omega (arith, c .held-in .ensures .1), c .held-in .ensures .2)
+    let l = lead-for _ (c .before .before .before .before .before .before .pre .3) (c .before .before .before .definition-of .ensures) in
+    (shown-holds _ _ _ (sym (c .before .if1 .taken) ∙ c .before .before .is-enum-referencing-same-container-struct .ensures _ l) (c .held-in .ensures .0), omega arith, omega (arith, c .held-in .ensures .1))
 
 returns-2 : tie.Need-returns-2
 returns-2 c =
-    let l = lead-for (c .before .before .before .before .before .pre .3) (c .before .before .definition-of .ensures) in
-    (shown-not _ _ _ (sym (c .if1 .left) ∙ c .before .is-enum-referencing-same-container-struct .ensures _ l), omega arith, omega arith, c .before .before .before .before .before .pre .3)
+    let l = lead-for _ (c .before .before .before .before .before .pre .3) (c .before .before .definition-of .ensures) in
+    (shown-not _ _ _ (sym (c .if1 .left) ∙ c .before .is-enum-referencing-same-container-struct .ensures _ l), omega arith, omega arith)
 
 pub answer-for-spec : {M : Type 1} → statement M
 answer-for-spec =

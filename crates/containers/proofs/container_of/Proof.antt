@@ -40,8 +40,8 @@ element-write-known : tie.Need-element-write-known
 element-write-known c = search needs
 
 returns-3 : tie.Need-returns-3
-returns-3 c = let a = c .before .before .before .before .before .before .before .before in let e = c .answer-for2 .ensures in
-    (e .0, e .1, known-put (a .pre .0) (e .3) (c .before .before .before .before .before .definition-of .result) (a .args .container) (c .before .before .before .before .before .definition-of .ensures) (omega (arith, c .before .before .before .before .if1 .left)) (e .0))
+returns-3 c = let a = c .before .before .before .before .before .before .before in let e = c .answer-for2 .ensures in
+    (e .0, e .1, known-put (a .pre .0) (a .pre .3) (c .before .before .before .before .definition-of .result) (a .args .container) (c .before .before .before .before .definition-of .ensures) (omega (arith, c .before .before .before .if1 .left)) (e .0))
 
 pub container-of-spec : {M : Type 1} → statement M
 container-of-spec =

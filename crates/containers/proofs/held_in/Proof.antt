@@ -11,8 +11,7 @@ is-constant-requires : tie.Need-is-constant-requires
 is-constant-requires c κs = search needs
 
 returns : tie.Need-returns
-returns c = let g = c .before .is-constant .ensures in
-    (held-constant _ _ _ (sym (c .if1 .taken) ∙ g .0), omega arith, g .1)
+returns c = (held-constant _ _ _ (sym (c .if1 .taken) ∙ c .before .is-constant .ensures), omega arith)
 
 find-definition-requires : tie.Need-find-definition-requires
 find-definition-requires c κs = search needs
@@ -24,16 +23,15 @@ enum-told : tie.Need-enum-told
 enum-told c = search needs
 
 returns-2 : tie.Need-returns-2
-returns-2 c = let g = c .before .before .before .before .is-constant .ensures in
-    (held-none _ _ _ (sym (c .before .before .before .if1 .left) ∙ g .0) (struct-none _ _ (definition-no _ _ _ (c .enum-told .given .1) (c .before .before .find-definition .ensures))), omega arith, g .1)
+returns-2 c = (held-none _ _ _ (sym (c .before .before .before .if1 .left) ∙ c .before .before .before .before .is-constant .ensures) (struct-none _ _ (definition-no _ _ _ (c .enum-told .given .1) (c .before .before .find-definition .ensures))), omega arith)
 
 last-lead-requires : tie.Need-last-lead-requires
-last-lead-requires c κs = let a = c .before .before .before .before .before .before .before .before .before in let d = definition-at _ _ _ (c .before .found .given .1) (c .before .before .before .find-definition .ensures) in
-    (a .pre .0, a .pre .1, d .below)
+last-lead-requires c κs = let a = c .before .before .before .before .before .before .before .before in let d = definition-at _ _ _ (c .before .found .given .1) (c .before .before .before .find-definition .ensures) in
+    (a .pre .0, a .pre .1 .fields, d .below)
 
 returns-3 : tie.Need-returns-3
-returns-3 c = let a = c .before .before .before .before .before .before .before .before .before .before in let k = c .before .before .before .before .before .before .is-constant .ensures in let d = definition-at _ _ _ (c .before .before .found .given .1) (c .before .before .before .before .find-definition .ensures) in
-    (held-last _ _ _ (sym (c .before .before .before .before .before .if1 .left) ∙ k .0) (a .pre .0) d (a .pre .4) (c .last-lead .ensures .0), omega (arith, c .last-lead .ensures .1, a .pre .2), k .1)
+returns-3 c = let a = c .before .before .before .before .before .before .before .before .before in let k = c .before .before .before .before .before .before .is-constant .ensures in let d = definition-at _ _ _ (c .before .before .found .given .1) (c .before .before .before .before .find-definition .ensures) in
+    (held-last _ _ _ (sym (c .before .before .before .before .before .if1 .left) ∙ k) (a .pre .0) d (a .pre .3) (c .last-lead .ensures .0), omega (arith, c .last-lead .ensures .1, a .pre .2))
 
 pub held-in-spec : {M : Type 1} → statement M
 held-in-spec =

@@ -1,38 +1,35 @@
-use Rattle.containers.proofs.Keeping.{known-constant}
-use mathlib.Core.Bool.{true, false}
+-- `containers::is_constant` meets its contract.
+use native.Mathlib.Omega.{arith}
+use Rattle.containers.proofs.Held.{constant-none, constant-noted}
 use borrow.Author.Needs.{needs}
 use Rattle.containers.proofs.is_constant.Statement.{statement}
 use Rattle.containers.proofs.is_constant.Tie as tie
 
-element-copy-out-kept : tie.Need-element-copy-out-kept
-element-copy-out-kept c = search needs
+definition-of-requires : tie.Need-definition-of-requires
+definition-of-requires c κs = search needs
 
 returns : tie.Need-returns
-returns c = (c .before .before .before .before .pre .1 .constant false (c .if1 .taken), c .before .before .before .before .pre .1)
+returns c = constant-none (c .before .before .before .before .pre .0) _ (c .before .definition-of .ensures) (c .if1 .taken)
+
+add-result : tie.Need-add-result
+add-result c = search needs
+
+mul-result : tie.Need-mul-result
+mul-result c = search needs
+
+shared-slice-read-result : tie.Need-shared-slice-read-result
+shared-slice-read-result c = search needs
 
 returns-2 : tie.Need-returns-2
-returns-2 c = (c .before .before .before .before .before .pre .1 .constant true (c .if2 .taken), c .before .before .before .before .before .pre .1)
-
-has-constant-size-variants-requires : tie.Need-has-constant-size-variants-requires
-has-constant-size-variants-requires c κs = search needs
-
-mark-of-requires : tie.Need-mark-of-requires
-mark-of-requires c κs = search needs
-
-element-write-known : tie.Need-element-write-known
-element-write-known c = search needs
-
-returns-3 : tie.Need-returns-3
-returns-3 c = (c .before .has-constant-size-variants .ensures, known-constant (c .before .before .before .before .before .before .before .pre .1) _ (c .before .has-constant-size-variants .ensures) (c .mark-of .ensures))
+returns-2 c = constant-noted (c .before .before .before .before .before .pre .0) _ (c .before .before .definition-of .ensures) (c .before .before .before .before .before .pre .1) (omega (arith, c .before .if1 .left))
 
 pub is-constant-spec : {M : Type 1} → statement M
 is-constant-spec =
     tie.close
     (tie.spec
-    element-copy-out-kept
+    definition-of-requires
     returns
-    returns-2
-    has-constant-size-variants-requires
-    mark-of-requires
-    element-write-known
-    returns-3)
+    add-result
+    mul-result
+    shared-slice-read-result
+    returns-2)

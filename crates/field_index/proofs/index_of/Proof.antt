@@ -17,7 +17,7 @@ shared-slice-read-a : tie.Need-shared-slice-read-a
 shared-slice-read-a c = search needs
 
 cast-a : tie.Need-cast-a
-cast-a c = omega (arith, c .shared-slice-known2 .given (2050 + c .before .before .args .i))
+cast-a c = omega (arith, c .shared-slice-known2 .given (2306 + c .before .before .args .i))
 
 returns : tie.Need-returns
 returns c ms o = shown-no-part (c .before .before .before .args .last) (c .before .before .before .args .x) (c .if1 .taken) ms o
@@ -29,7 +29,7 @@ shared-slice-read-n : tie.Need-shared-slice-read-n
 shared-slice-read-n c = omega (arith, part-room (c .before .before .before .before .pre .1 .1 .part (omega arith)) .0)
 
 cast-n : tie.Need-cast-n
-cast-n c = omega (arith, c .shared-slice-known3 .given (getD (c .before .before .before .before .args .places .now) (2050 + c .before .before .before .before .args .i) 0))
+cast-n c = omega (arith, c .shared-slice-known3 .given (getD (c .before .before .before .before .args .places .now) (2306 + c .before .before .before .before .args .i) 0))
 
 add-d : tie.Need-add-d
 add-d c = omega (arith, part-room (c .before .before .before .before .pre .1 .1 .part (omega arith)) .0)
@@ -41,7 +41,7 @@ shared-slice-read-d : tie.Need-shared-slice-read-d
 shared-slice-read-d c = omega (arith, part-room (c .before .before .before .before .before .pre .1 .1 .part (omega arith)) .0)
 
 cast-d : tie.Need-cast-d
-cast-d c = omega (arith, c .shared-slice-known4 .given (getD (c .before .before .before .before .before .args .places .now) (2050 + c .before .before .before .before .before .args .i) 0 + 1))
+cast-d c = omega (arith, c .shared-slice-known4 .given (getD (c .before .before .before .before .before .args .places .now) (2306 + c .before .before .before .before .before .args .i) 0 + 1))
 
 index-in-requires : tie.Need-index-in-requires
 index-in-requires c κs = let p = (c .before .before .before .before .before .pre .1 .1 .part (omega arith)) in

@@ -17,7 +17,7 @@ shared-slice-read-a : tie.Need-shared-slice-read-a
 shared-slice-read-a c = search needs
 
 cast-a : tie.Need-cast-a
-cast-a c = omega (arith, c .shared-slice-known3 .given (2050 + c .before .before .before .args .i))
+cast-a c = omega (arith, c .shared-slice-known3 .given (2306 + c .before .before .before .args .i))
 
 returns : tie.Need-returns
 returns c = let a = c .before .before .before .before in (lead-no-part (a .pre .1) (a .pre .2) _ (c .if1 .taken), omega arith)
@@ -29,7 +29,7 @@ shared-slice-read-n : tie.Need-shared-slice-read-n
 shared-slice-read-n c = omega (arith, part-room (c .before .before .before .before .before .pre .1 .each _ (c .before .before .before .before .before .pre .2) .part (omega arith)) .0)
 
 cast-n : tie.Need-cast-n
-cast-n c = omega (arith, c .shared-slice-known4 .given (getD (c .before .before .before .before .before .args .places .now) (2050 + c .before .before .before .before .before .args .i) 0))
+cast-n c = omega (arith, c .shared-slice-known4 .given (getD (c .before .before .before .before .before .args .places .now) (2306 + c .before .before .before .before .before .args .i) 0))
 
 add-last-in : tie.Need-add-last-in
 add-last-in c = omega (arith, part-room (c .before .before .before .before .before .pre .1 .each _ (c .before .before .before .before .before .pre .2) .part (omega arith)) .0)

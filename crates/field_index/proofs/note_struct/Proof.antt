@@ -76,7 +76,7 @@ add-result-2 : tie.Need-add-result-2
 add-result-2 c = let a = c .before .before .before .before .before .before .before .before .before .before .before .before in omega (arith, room-for (a .pre .0) (a .pre .1) (a .pre .2) (shape-struct _ _ _ (c .before .before .before .before .before .before .shape .given .1) (c .before .before .before .before .before .before .before .before .shape-at .ensures)) .1)
 
 same-length-3 : tie.Need-same-length-3
-same-length-3 c = let a = c .before .before .before .before .before .before .before .before .before .before .before .before in let k = 2050 + a .args .i in
+same-length-3 c = let a = c .before .before .before .before .before .before .before .before .before .before .before .before in let k = 2306 + a .args .i in
     c .before .before .note-fields .ensures .2 .size ∙ length-set (set (a .args .places .now) k 0) k (a .args .used) ∙ length-set (a .args .places .now) k 0
 
 returns-3 : tie.Need-returns-3

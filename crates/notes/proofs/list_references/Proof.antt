@@ -17,7 +17,7 @@ abbrev μ-loop : tie.MeasureT-loop
 
 -- where the list of the definition ends can be noted
 small : (c : tie.After-slice-known2 Inv-loop μ-loop) → (c .before .before .list-definition .result < 65536)
-    × (2306 + (c .before .before .before .before .before .before .loop .i + 1) < length (c .before .before .list-definition .last .1 .0))
+    × (2562 + (c .before .before .before .before .before .before .loop .i + 1) < length (c .before .before .list-definition .last .1 .0))
 small c =
     let e = c .before .before .list-definition .ensures in
     let l = c .before .before .before .before .before .before .loop .inv .0 in
@@ -31,7 +31,7 @@ slice-write-places : tie.Need-slice-write-places Inv-loop μ-loop
 slice-write-places c = omega (arith, c .before .before .pre .1 .below .noted .size)
 
 loop-holds : tie.Need-loop-holds Inv-loop μ-loop
-loop-holds c = (listing-start (c .before .before .pre .0) (c .before .before .pre .1 .below) (room-start (c .before .before .pre .0 .table) (c .before .before .pre .1)), refl)
+loop-holds c = (listing-start (c .before .before .pre .0) (c .before .before .pre .2) (c .before .before .pre .1 .below) (room-start (c .before .before .pre .0 .table) (c .before .before .pre .1)), refl)
 
 list-definition-requires : tie.Need-list-definition-requires Inv-loop μ-loop
 list-definition-requires c κs =
@@ -61,12 +61,12 @@ loop-again c =
     let e = c .before .before .list-definition .ensures in
     let l = c .before .before .before .before .before .before .loop .inv .0 in
     let b = c .before .before .before .before .if1 .taken in
-    (listing-next l b (e .0) (e .1), length-set (c .before .before .list-definition .last .1 .0) (2306 + (c .before .before .before .before .before .before .loop .i + 1)) (c .before .before .list-definition .result) ∙ e .1 .size ∙ c .before .before .before .before .before .before .loop .inv .1)
+    (listing-next l b (e .0) (e .1), length-set (c .before .before .list-definition .last .1 .0) (2562 + (c .before .before .before .before .before .before .loop .i + 1)) (c .before .before .list-definition .result) ∙ e .1 .size ∙ c .before .before .before .before .before .before .loop .inv .1)
 
 same-length : tie.Need-same-length Inv-loop μ-loop
 same-length c =
     let a = c .before .before .before .before .before in
-    c .before .before .loop .inv .1 ∙ length-set (a .args .places .now) 2306 (a .args .used)
+    c .before .before .loop .inv .1 ∙ length-set (a .args .places .now) 2562 (a .args .used)
 
 returns : tie.Need-returns Inv-loop μ-loop
 returns c = listing-end (c .before .before .loop .inv .0) (c .if1 .left)

@@ -18,7 +18,7 @@ enum-known-step c = search needs
 
 validate-references-requires : tie.Need-validate-references-requires
 validate-references-requires c κs = let a = c .before .before .before .before .before .before .before .before .before .before .before .before .before .pre in
-    (a .0, ((a .1 .0 .0, a .1 .0 .1, a .1 .0 .2, a .1 .0 .3, a .1 .0 .4 .fields), (expr-bound 23 _ _ _ (sym (c .before .before .before .before .step .given .1) ∙ c .before .before .before .before .before .before .expr-at .ensures), expr-fits 23 _ _ _ (sym (c .before .before .before .before .step .given .1) ∙ c .before .before .before .before .before .before .expr-at .ensures), subst (Room (c .before .before .before .before .before .before .before .before .before .before .before .before .before .args .position)) (enum-violations _ (c .before .before .before .before .before .before .before .before .before .before .before .before .before .args .subject) (c .before .before .before .before .before .before .before .before .before .before .before .before .before .pre .1 .1 .0) _ (sym (c .before .before .before .before .step .given .1) ∙ c .before .before .before .before .before .before .expr-at .ensures)) (c .before .before .before .before .before .before .before .before .before .before .before .before .before .pre .1 .1 .1))))
+    (a .0, ((a .1 .0 .0, a .1 .0 .1, a .1 .0 .2, a .1 .0 .3, a .1 .0 .4 .definitions), (expr-bound 23 _ _ _ (sym (c .before .before .before .before .step .given .1) ∙ c .before .before .before .before .before .before .expr-at .ensures), expr-fits 23 _ _ _ (sym (c .before .before .before .before .step .given .1) ∙ c .before .before .before .before .before .before .expr-at .ensures), subst (Room (c .before .before .before .before .before .before .before .before .before .before .before .before .before .args .position)) (enum-violations _ (c .before .before .before .before .before .before .before .before .before .before .before .before .before .args .subject) (c .before .before .before .before .before .before .before .before .before .before .before .before .before .pre .1 .1 .0) _ (sym (c .before .before .before .before .step .given .1) ∙ c .before .before .before .before .before .before .expr-at .ensures)) (c .before .before .before .before .before .before .before .before .before .before .before .before .before .pre .1 .1 .1))))
 
 enum-told : tie.Need-enum-told
 enum-told c = search needs
