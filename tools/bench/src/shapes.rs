@@ -265,6 +265,43 @@ pub fn one_long_tag(bytes: usize) -> Bundle {
     })
 }
 
+/// A tag with references to a field that the struct which holds the enum lacks, among
+/// fields whose names are equal modulo 256; the first 45 are violations, so that the
+/// report is worked out twice.
+pub fn one_tag_one_bucket(bytes: usize) -> Bundle {
+    largest(bytes, &|count| {
+        let mut list = vec![(OTHER, Type::TypeRef(TARGET))];
+        list.extend((1..256).map(|number| (number * 256, U8)));
+        let part = |number: usize| match number < 45 {
+            true => own(256),
+            false => own(0),
+        };
+        let tag = sum(count, &part);
+        bundle(vec![
+            define(OWNER, structure(list)),
+            define(TARGET, enumeration(tag, Vec::new())),
+        ])
+    })
+}
+
+/// Many enums of one name without variants, the first with a long tag; 42 of the others
+/// are violations, so that the report is worked out twice.
+pub fn one_tag_asked_often(bytes: usize) -> Bundle {
+    largest(bytes, &|count| {
+        let holder = structure(vec![(OTHER, Type::TypeRef(TARGET)), (FIRST, U8)]);
+        let long = sum(count, &|_| literal(0));
+        let mut list = vec![
+            define(OWNER, holder),
+            define(TARGET, enumeration(long, Vec::new())),
+        ];
+        list.extend((0..MANY).map(|number| {
+            let field = if number < 42 { FIRST } else { OTHER };
+            define(TARGET, enumeration(own(field), Vec::new()))
+        }));
+        bundle(list)
+    })
+}
+
 /// A tag with many references to a name that has many structs, none of which holds
 /// the enum.
 pub fn no_container(bytes: usize) -> Bundle {
