@@ -12,8 +12,11 @@ use borrow.Author.Tests.{eq-eqb, ne-eqb}
 use lib.ListN.{length, length-set, getD, set}
 use lib.Seq.{getD-set-same, getD-set-other}
 use Rattle.meaning.specs.Tree.{Member}
-use Rattle.table.specs.Table.{member, Last, Members, grown, Within, Entered}
-use Rattle.field_index.specs.Noted.{nameAt, tableAt, IsFirst, IsLast, HasName, NotedTo}
+use Rattle.table.specs.Table.{member, Last, Members, grown, Within}
+use Rattle.tree.specs.Tree.{number, Tree, Entered}
+use Rattle.tree.proofs.Seeking.{same-place}
+use Rattle.tree.proofs.Growing.{tree-same}
+use Rattle.field_index.specs.Noted.{nameAt, treeAt, IsFirst, IsLast, HasName, NotedTo}
 
 -- the places of a table of n members with b buckets hold the same
 abbrev pub Same : List ℕ → List ℕ → ℕ → ℕ → ℕ → Type 0
@@ -42,20 +45,27 @@ module _ {t : List ℕ} (u : List ℕ) {a b n : ℕ} (m : Members t a b n) (same
             rw (member-same k c, same (a + b + 2 * k + 1) (omega arith) (omega arith)) (bucket-same (omega arith) (m .links k c));
       }
 
--- x is entered at r in the table, and k is written as the last index of r, and as the first where r is new
+-- the places of a tree of n numbers hold the same
+abbrev pub SameTree : List ℕ → List ℕ → ℕ → ℕ → Type 0
+SameTree t u a n = (i : ℕ) → a ≤ i → i < a + 3 * n → getD u i 0 ≡ getD t i 0
+
+-- x is entered at r in the tree, and k is written as the last index of r, and as the first where r is new
 pub record Written (t u : List ℕ) (a n d k r : ℕ) : Type 0 where
   pub first-old : (q : ℕ) → q < d → getD u (a + 2 + q) 0 ≡ getD t (a + 2 + q) 0
   pub first-new : r ≡ d → getD u (a + 2 + r) 0 ≡ k
   pub last-here : getD u (a + 2 + n + r) 0 ≡ k
   pub last-other : (q : ℕ) → q < d → (q ≡ r → ⊥) → getD u (a + 2 + n + q) 0 ≡ getD t (a + 2 + n + q) 0
 
-module _ {t v : List ℕ} (u : List ℕ) {a n d k x r : ℕ} (e : Entered t (tableAt a n) n d x r v) (same : Same v u (tableAt a n) n (grown d r)) (long : length v ≤ length u)
+module _ {t v : List ℕ} (u : List ℕ) {a n d k x r : ℕ} (e : Entered t (treeAt a n) d x r v) (same : SameTree v u (treeAt a n) (grown d r)) (long : length v ≤ length u)
     (w : Written t u a n d k r) (ms : List Member) (o : NotedTo ms t a n d k) (is : nameAt ms k ≡ x) where
   abbrev name : ℕ → ℕ
-  name = member u (tableAt a n) n
+  name = number u (treeAt a n)
 
-  table : Members u (tableAt a n) n (grown d r)
-  table = members-same u (e .all) same long
+  tree : Tree u (treeAt a n) (grown d r)
+  tree = tree-same u (e .all) same long
+
+  apart : (i j : ℕ) → i < j → j < grown d r → name i ≡ name j → ⊥
+  apart i j c l e = omega (arith, same-place tree i j (omega arith) l e)
 
   grown-old : (q : ℕ) → q < d → q < grown d r
   grown-old q l = by-cases (ℕ-discrete r d) (λ (p : r ≡ d). rw (eq-eqb r d p) (omega arith)) (λ (p : ¬ (r ≡ d)). rw (ne-eqb r d p) l)
@@ -65,16 +75,16 @@ module _ {t v : List ℕ} (u : List ℕ) {a n d k x r : ℕ} (e : Entered t (tab
       by-cases (ℕ-discrete r d) (λ (p : r ≡ d). rw (eq-eqb r d p) (omega arith)) (λ (p : ¬ (r ≡ d)). rw (ne-eqb r d p) (omega (arith, e .within)))
 
   named : name r ≡ x
-  named = same (tableAt a n + n + 2 * r) (omega arith) (omega (arith, here-grown)) ∙ e .here
+  named = same (treeAt a n + 3 * r) (omega arith) (omega (arith, here-grown)) ∙ e .here
 
-  name-old : (q : ℕ) → q < d → name q ≡ member t (tableAt a n) n q
-  name-old q l = same (tableAt a n + n + 2 * q) (omega arith) (omega (arith, grown-old q l)) ∙ e .old q l
+  name-old : (q : ℕ) → q < d → name q ≡ number t (treeAt a n) q
+  name-old q l = same (treeAt a n + 3 * q) (omega arith) (omega (arith, grown-old q l)) ∙ e .old q l
 
   -- a name that is not the one entered is not the field's
   other : (q : ℕ) → q < grown d r → (q ≡ r → ⊥) → nameAt ms k ≡ name q → ⊥
   other q l ne p =
-      by-cases (decLt q r) (λ (c : q < r). table .apart q r c here-grown (sym p ∙ is ∙ sym named))
-      (λ (c : ¬ (q < r)). table .apart r q (omega arith) l (named ∙ sym is ∙ p))
+      by-cases (decLt q r) (λ (c : q < r). apart q r c here-grown (sym p ∙ is ∙ sym named))
+      (λ (c : ¬ (q < r)). apart r q (omega arith) l (named ∙ sym is ∙ p))
 
   below : (q : ℕ) → q < grown d r → (q ≡ r → ⊥) → q < d
   below q l ne =
@@ -86,7 +96,7 @@ module _ {t v : List ℕ} (u : List ℕ) {a n d k x r : ℕ} (e : Entered t (tab
       ne-of q ne p z = ne (z ∙ sym p)
 
   pub noted-more : NotedTo ms u a n (grown d r) (k + 1)
-  noted-more = record { table = table; few = few; all = all; firsts = firsts; lasts = lasts }
+  noted-more = record { tree = tree; few = few; all = all; firsts = firsts; lasts = lasts }
     where
       few : grown d r ≤ k + 1
       few = by-cases (ℕ-discrete r d) (λ (p : r ≡ d). rw (eq-eqb r d p) (omega (arith, o .few))) (λ (p : ¬ (r ≡ d)). rw (ne-eqb r d p) (omega (arith, o .few)))
@@ -113,8 +123,8 @@ module _ {t v : List ℕ} (u : List ℕ) {a n d k x r : ℕ} (e : Entered t (tab
             here = is;
             none = λ i m p.
                 let h = o .all i m in
-                let y : member t (tableAt a n) n (h .0) ≡ x = h .2 ∙ p in
-                table .apart (h .0) r (omega (arith, h .1)) here-grown (name-old (h .0) (h .1) ∙ y ∙ sym named);
+                let y : number t (treeAt a n) (h .0) ≡ x = h .2 ∙ p in
+                apart (h .0) r (omega (arith, h .1)) here-grown (name-old (h .0) (h .1) ∙ y ∙ sym named);
           }))
           (λ (z : ¬ (q ≡ r)). absurd (c (below q l z))))
 
@@ -140,17 +150,17 @@ abbrev pub OneMore : List ℕ → List ℕ → ℕ → ℕ → ℕ → ℕ → �
 OneMore t u a n d k x D =
     ((ms : List Member) → NotedTo ms t a n d k → nameAt ms k ≡ x → NotedTo ms u a n D (k + 1)) × Within (a + 2) (a + 2 + 5 * n) t u
 
-module _ {t v : List ℕ} {x : ℕ} (a n d r k : ℕ) (e : Entered t (tableAt a n) n d x r v) (f : d < n) (room : a + 2 + 5 * n ≤ length t) where
+module _ {t v : List ℕ} {x : ℕ} (a n d r k : ℕ) (e : Entered t (treeAt a n) d x r v) (f : d < n) (room : a + 2 + 5 * n ≤ length t) where
   abbrev last : List ℕ
   last = set v (a + 2 + n + r) k
 
   last-long : length last ≡ length t
   last-long = length-set v (a + 2 + n + r) k ∙ e .only .size
 
-  last-same : (i : ℕ) → (i ≡ a + 2 + n + r → ⊥) → i < tableAt a n → getD last i 0 ≡ getD t i 0
+  last-same : (i : ℕ) → (i ≡ a + 2 + n + r → ⊥) → i < treeAt a n → getD last i 0 ≡ getD t i 0
   last-same i ne l = getD-set-other v (a + 2 + n + r) i k 0 ne ∙ e .only .before i l
 
-  last-table : Same v last (tableAt a n) n (grown d r)
+  last-table : SameTree v last (treeAt a n) (grown d r)
   last-table i l m = getD-set-other v (a + 2 + n + r) i k 0 (λ z. omega (arith, z, e .within))
 
   last-within : Within (a + 2) (a + 2 + 5 * n) t last

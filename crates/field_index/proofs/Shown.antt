@@ -1,7 +1,7 @@
 -- What is noted of a name is the index of the first and of the last field that has it.
 --     shown-none     no field has the name
 --     shown-at       what stands at its place
---     part-room, -table   what a part has
+--     part-room, -tree   what a part has
 use Prim.Native.Nat.{ℕ, zero, suc, _+_, _-_, _*_, _≤_, _<_, suc-le-suc}
 use mathlib.Core.Path.{_≡_, refl, sym, ap, subst, _∙_}
 use mathlib.Core.Bool.{Bool, true, false, cond}
@@ -17,9 +17,9 @@ use Rattle.meaning.specs.Tree.{Member, Bundle}
 use Rattle.meaning.specs.Lists.{firstIndex, lastIndex}
 use Rattle.meaning.specs.Lookup.{memberName, memberType, asTypeRef}
 use Rattle.bundle.specs.Definitions.{bundleOf}
-use Rattle.table.specs.Table.{Members, PlaceOf}
+use Rattle.tree.specs.Tree.{Tree, PlaceOf}
 use Rattle.fields.specs.Sought.{named, shown}
-use Rattle.field_index.specs.Noted.{nameAt, tableAt, Part, NotedFor, indexShown, leadShown, leadsOf, leadIs, leadsAt, LeadsTo, LastIn, partOf, fieldsAt, FieldsNoted}
+use Rattle.field_index.specs.Noted.{nameAt, treeAt, Part, NotedFor, indexShown, leadShown, leadsOf, leadIs, leadsAt, LeadsTo, LastIn, partOf, fieldsAt, FieldsNoted}
 
 -- no field has the name
 abbrev Lacks : List Member → ℕ → Type 0
@@ -64,7 +64,7 @@ shown-no-part true x z ms o = rw (o .none z) refl
 shown-no-part false x z ms o = rw (o .none z) refl
 
 module _ {notes : List ℕ} {a n d r : ℕ} (x : ℕ) (ms : List Member) (p : Part ms notes a) (count : getD notes a 0 ≡ n) (names : getD notes (a + 1) 0 ≡ d)
-    (q : PlaceOf notes (tableAt a n) n d x r) where
+    (q : PlaceOf notes (treeAt a n) d x r) where
   the-count : length ms ≡ n
   the-count = sym (p .count) ∙ count
 
@@ -75,12 +75,12 @@ module _ {notes : List ℕ} {a n d r : ℕ} (x : ℕ) (ms : List Member) (p : Pa
       let y : h .0 ≡ r = q .only (h .0) (omega (arith, h .1, names)) (subst-name (h .0) ∙ h .2 ∙ e) in
       omega (arith, h .1, names, y))
     where
-      subst-name : (k : ℕ) → getD notes (tableAt a n + n + 2 * k) 0 ≡ getD notes (tableAt a (length ms) + length ms + 2 * k) 0
-      subst-name k = ap (λ n. getD notes (tableAt a n + n + 2 * k) 0) (sym the-count)
+      subst-name : (k : ℕ) → getD notes (treeAt a n + 3 * k) 0 ≡ getD notes (treeAt a (length ms) + 3 * k) 0
+      subst-name k = ap (λ n. getD notes (treeAt a n + 3 * k) 0) (sym the-count)
 
   module _ (l : r < d) where
-    is-named : getD notes (tableAt a (length ms) + length ms + 2 * r) 0 ≡ x
-    is-named = ap (λ n. getD notes (tableAt a n + n + 2 * r) 0) the-count ∙ q .here l
+    is-named : getD notes (treeAt a (length ms) + 3 * r) 0 ≡ x
+    is-named = ap (λ n. getD notes (treeAt a n + 3 * r) 0) the-count ∙ q .here l
 
     shown-first : getD notes (a + 2 + r) 0 + 1 ≡ indexShown false x ms
     shown-first =
@@ -132,8 +132,8 @@ last-shown b {notes} a x {r} ms leads l =
 pub part-room : {ms : List Member} {notes : List ℕ} {a : ℕ} → Part ms notes a → (a + 2 + 6 * getD notes a 0 ≤ length notes) × (getD notes (a + 1) 0 ≤ getD notes a 0)
 part-room p = (omega (arith, p .room, p .count), omega (arith, p .all .few, p .count))
 
-pub part-table : {ms : List Member} {notes : List ℕ} {a : ℕ} → Part ms notes a → Members notes (tableAt a (getD notes a 0)) (getD notes a 0) (getD notes (a + 1) 0)
-part-table {notes = notes} {a = a} p = subst (λ n. Members notes (tableAt a n) n (getD notes (a + 1) 0)) (sym (p .count)) (p .all .table)
+pub part-tree : {ms : List Member} {notes : List ℕ} {a : ℕ} → Part ms notes a → Tree notes (treeAt a (getD notes a 0)) (getD notes (a + 1) 0)
+part-tree {notes = notes} {a = a} p = subst (λ n. Tree notes (treeAt a n) (getD notes (a + 1) 0)) (sym (p .count)) (p .all .tree)
 
 -- the last field of definition i that leads where x says
 module _ {s places : List ℕ} {n i : ℕ} (o : FieldsNoted s places n) (l : i < n) (x : ℕ) where

@@ -19,24 +19,25 @@ use Rattle.bundle.proofs.Parts.{members-length}
 use Rattle.fields.specs.declared.Field.{Field}
 use Rattle.fields.specs.Shapes.{FieldAt}
 use Rattle.fields.proofs.Walking.{Passing, passing-next, passing-tree}
-use Rattle.table.specs.Table.{Members, Within}
-use Rattle.field_index.specs.Noted.{nameAt, tableAt, NotedTo, Part, NotedFor, leadShown, leadsOf, leadsAt, LeadsTo}
-use Rattle.field_index.proofs.Noting.{members-same, OneMore}
+use Rattle.table.specs.Table.{Within}
+use Rattle.tree.proofs.Growing.{tree-same, tree-none}
+use Rattle.field_index.specs.Noted.{nameAt, treeAt, NotedTo, Part, NotedFor, leadShown, leadsOf, leadsAt, LeadsTo}
+use Rattle.field_index.proofs.Noting.{OneMore}
 
 -- places of the part at a from its names on hold the same
 noted-same : {ms : List Member} {t : List ℕ} (u : List ℕ) {a n d k : ℕ} → d ≤ n → ((i : ℕ) → a + 2 ≤ i → i < a + 2 + 5 * n → getD u i 0 ≡ getD t i 0)
     → length t ≤ length u → NotedTo ms t a n d k → NotedTo ms u a n d k
 noted-same {t = t} u {a} {n} {d} l same long o =
     record {
-      table = members-same u (o .table) (λ i c m. same i (omega arith) (omega arith)) long;
+      tree = tree-same u (o .tree) (λ i c m. same i (omega arith) (omega arith)) long;
       few = o .few;
       all = λ i c. let h = o .all i c in (h .0, h .1, name (h .0) (h .1) ∙ h .2);
       firsts = λ r c. rw (name r c, same (a + 2 + r) (omega arith) (omega arith)) (o .firsts r c);
       lasts = λ r c. rw (name r c, same (a + 2 + n + r) (omega arith) (omega arith)) (o .lasts r c);
     }
   where
-    name : (r : ℕ) → r < d → getD u (tableAt a n + n + 2 * r) 0 ≡ getD t (tableAt a n + n + 2 * r) 0
-    name r c = same (tableAt a n + n + 2 * r) (omega arith) (omega arith)
+    name : (r : ℕ) → r < d → getD u (treeAt a n + 3 * r) 0 ≡ getD t (treeAt a n + 3 * r) 0
+    name r c = same (treeAt a n + 3 * r) (omega arith) (omega arith)
 
 part-same : {ms : List Member} {t : List ℕ} (u : List ℕ) {a : ℕ} → ((i : ℕ) → a ≤ i → i < a + 2 + 6 * length ms → getD u i 0 ≡ getD t i 0)
     → length t ≤ length u → Part ms t a → Part ms u a
@@ -82,34 +83,34 @@ pub record Noting (s : List ℕ) (at n : ℕ) (notes₀ : List ℕ) (a : ℕ) (n
   pub count : getD notes a 0 ≡ n
   pub only : Within a (a + 2 + 6 * n) notes₀ notes
 
-module _ (n : ℕ) (t : List ℕ) (a : ℕ) {u : List ℕ} (room : a + 2 + 6 * n ≤ length t) (w : Within (tableAt a n) (tableAt a n + n) (set t a n) u) where
-  pub noting-start : {s : List ℕ} (at : ℕ) → Reads (readMembers (readTy 23) 0x50 n s at) → Members u (tableAt a n) n 0 → Noting s at n u a u at 0 0
-  noting-start at reads m =
+module _ (n : ℕ) (t : List ℕ) (a : ℕ) (room : a + 2 + 6 * n ≤ length t) where
+  pub noting-start : {s : List ℕ} (at : ℕ) → Reads (readMembers (readTy 23) 0x50 n s at) → Noting s at n (set t a n) a (set t a n) at 0 0
+  noting-start at reads =
       record {
         bound = omega arith;
         pass = rw (all n) (record { bound = omega arith; reads = reads });
         rest = rw (all n) refl;
         noted = record {
-          table = m;
+          tree = tree-none (set t a n) (treeAt a n) (omega (arith, length-set t a n));
           few = omega arith;
           all = λ i l. absurd (omega arith);
           firsts = λ r l. absurd (omega arith);
           lasts = λ r l. absurd (omega arith);
         };
         leads = λ i l. absurd (omega arith);
-        count = w .before a (omega arith) ∙ getD-set-same t a n 0 (omega arith);
+        count = getD-set-same t a n 0 (omega arith);
         only = record { size = refl; before = λ i l. refl; behind = λ i l. refl };
       }
     where
       all : (n : ℕ) → n - 0 ≡ n
       all n = omega arith
 
-  pub started : Within a (a + 2 + 6 * n) t u
+  pub started : Within a (a + 2 + 6 * n) t (set t a n)
   started =
       record {
-        size = w .size ∙ length-set t a n;
-        before = λ i l. w .before i (omega arith) ∙ getD-set-other t a i n 0 (λ z. omega (arith, z));
-        behind = λ i l. w .behind i (omega arith) ∙ getD-set-other t a i n 0 (λ z. omega (arith, z));
+        size = length-set t a n;
+        before = λ i l. getD-set-other t a i n 0 (λ z. omega (arith, z));
+        behind = λ i l. getD-set-other t a i n 0 (λ z. omega (arith, z));
       }
 
 module _ {s : List ℕ} {at n : ℕ} {t : List ℕ} {a : ℕ} {u : List ℕ} {next d k : ℕ} (o : Noting s at n t a u next d k) where

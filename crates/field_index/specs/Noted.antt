@@ -14,16 +14,16 @@ use Rattle.meaning.specs.Limits.{definitionLimit}
 use Rattle.meaning.specs.Sizes.{isEnumWithConstantSizeVariants}
 use Rattle.bundle.specs.Definitions.{typeAt, bundleOf, placesEnd}
 use Rattle.sizes.specs.Scan.{referencesFrom}
-use Rattle.table.specs.Table.{Members, member}
+use Rattle.tree.specs.Tree.{Tree, number}
 use Rattle.fields.specs.Sought.{named, shown}
 
 -- the name of field k
 abbrev pub nameAt : List Member → ℕ → ℕ
 nameAt ms k = getD (map memberName ms) k 0
 
--- where the table of names stands in a part at a for n fields
-abbrev pub tableAt : ℕ → ℕ → ℕ
-tableAt a n = a + 2 + 2 * n
+-- where the tree of names stands in a part at a for n fields
+abbrev pub treeAt : ℕ → ℕ → ℕ
+treeAt a n = a + 2 + 2 * n
 
 -- of the first k fields, f is the first that has the name x
 pub record IsFirst (ms : List Member) (k x f : ℕ) : Type 0 where
@@ -39,15 +39,15 @@ pub record IsLast (ms : List Member) (k x l : ℕ) : Type 0 where
 
 -- one of d names is x
 abbrev pub HasName : List ℕ → ℕ → ℕ → ℕ → ℕ → Type 0
-HasName notes a n d x = (r : ℕ) × (r < d) × (member notes (tableAt a n) n r ≡ x)
+HasName notes a n d x = (r : ℕ) × (r < d) × (number notes (treeAt a n) r ≡ x)
 
 -- the first k of the fields ms are noted in the part at a, which is one for n fields, and have d names
 pub record NotedTo (ms : List Member) (notes : List ℕ) (a n d k : ℕ) : Type 0 where
-  pub table : Members notes (tableAt a n) n d
+  pub tree : Tree notes (treeAt a n) d
   pub few : d ≤ k
   pub all : (i : ℕ) → i < k → HasName notes a n d (nameAt ms i)
-  pub firsts : (r : ℕ) → r < d → IsFirst ms k (member notes (tableAt a n) n r) (getD notes (a + 2 + r) 0)
-  pub lasts : (r : ℕ) → r < d → IsLast ms k (member notes (tableAt a n) n r) (getD notes (a + 2 + n + r) 0)
+  pub firsts : (r : ℕ) → r < d → IsFirst ms k (number notes (treeAt a n) r) (getD notes (a + 2 + r) 0)
+  pub lasts : (r : ℕ) → r < d → IsLast ms k (number notes (treeAt a n) r) (getD notes (a + 2 + n + r) 0)
 
 -- all fields ms are noted in the part at a
 pub record Part (ms : List Member) (notes : List ℕ) (a : ℕ) : Type 0 where

@@ -1,7 +1,7 @@
 // The fields of every struct by their names: noted once for a bundle, behind the places of its definitions, and then looked up.
 // Behind those places stands for each definition whether it is an enum with variants of constant size; then for each where its part starts,
 // and 0 where it is no struct or has no field; then come the places where the lists of references start (crate notes), and then the parts. A part has the count of fields and the count of their names, then for each name the index of the first field that has it, then for each the index of the
-// last, then a table of the names with as many buckets as there are fields, then for each field where its type leads.
+// last, then a tree of the names, then for each field where its type leads.
 use fields::Shape;
 ghost use mathlib.Core.Path.{_≡_};
 ghost use mathlib.Core.Bool.{cond};
@@ -15,8 +15,9 @@ ghost use Rattle.meaning.specs.ReadType.{readTy, readMembers};
 ghost use Rattle.bundle.specs.View.{Reads};
 ghost use Rattle.bundle.specs.Definitions.{typeAt, membersAt, bundleOf, Table};
 ghost use Rattle.fields.specs.Sought.{shown};
-ghost use Rattle.table.specs.Table.{Members, Within};
-ghost use Rattle.field_index.specs.Noted.{nameAt, tableAt, startsAt, partsAt, NotedTo, Part, NotedFor, indexShown, leadShown, leadsOf, LeadsTo, leadIs, LastIn, fieldsAt, markOf, ConstantsNoted, FieldsNoted, NotedBelow, Front};
+ghost use Rattle.table.specs.Table.{Within};
+ghost use Rattle.tree.specs.Tree.{Tree};
+ghost use Rattle.field_index.specs.Noted.{nameAt, treeAt, startsAt, partsAt, NotedTo, Part, NotedFor, indexShown, leadShown, leadsOf, LeadsTo, leadIs, LastIn, fieldsAt, markOf, ConstantsNoted, FieldsNoted, NotedBelow, Front};
 
 // Where it stands for each definition whether it is an enum with variants of constant size.
 pub const CONSTANTS_AT: usize = bundle::PLACES;
@@ -57,7 +58,7 @@ fn note_name(notes: &mut [u16], a: usize, n: usize, d: usize, k: usize, x: u16) 
     requires { ⌜ ((ms : List Member) × NotedTo ms (now notes) a n d k × (nameAt ms k ≡ x)) ⌝ }
     ensures { λ r. ⌜ ((ms : List Member) → NotedTo ms (now (notes .entry)) a n d k → nameAt ms k ≡ x → NotedTo ms (now (notes .exit)) a n r (k + 1)) × Within (a + 2) (a + 2 + 5 * n) (now (notes .entry)) (now (notes .exit)) ⌝ }
 {
-    let r = table::enter(notes, a + 2 + 2 * n, n, d, x);
+    let r = tree::enter(notes, a + 2 + 2 * n, d, x);
     notes[a + 2 + n + r] = k as u16;
     if r < d {
         return d;
@@ -86,7 +87,6 @@ fn note_fields(s: &[u8], count: usize, at: usize, n: usize, notes: &mut [u16], a
     ensures { λ _. ⌜ Part (listOf (membersAt 23 0x50 n (now (s .entry)) at)) (now (notes .exit)) a × LeadsTo (leadsOf (bundleOf (now (s .entry))) (listOf (membersAt 23 0x50 n (now (s .entry)) at))) (now (notes .exit)) a n n × Within a (a + 2 + 6 * n) (now (notes .entry)) (now (notes .exit)) ⌝ }
 {
     notes[a] = n as u16;
-    table::empty(notes, a + 2 + 2 * n, n);
     let mut next = at;
     let mut d = 0;
     let mut k = 0;
@@ -149,10 +149,10 @@ fn index_at(notes: &[u16], a: usize, n: usize, r: usize, last: bool) -> usize
 
 // The same of the name `x`, and 0 where no field has it.
 fn index_in(notes: &[u16], a: usize, n: usize, d: usize, last: bool, x: u16) -> usize
-    requires { ⌜ (a + 2 + 5 * n ≤ length (now notes)) × (d ≤ n) × Members (now notes) (tableAt a n) n d ⌝ }
+    requires { ⌜ (a + 2 + 5 * n ≤ length (now notes)) × (d ≤ n) × Tree (now notes) (treeAt a n) d ⌝ }
     ensures { λ r. ⌜ ((ms : List Member) → Part ms (now (notes .entry)) a → getD (now (notes .entry)) a 0 ≡ n → getD (now (notes .entry)) (a + 1) 0 ≡ d → r ≡ indexShown last x ms) ⌝ }
 {
-    let r = table::place_of(notes, a + 2 + 2 * n, n, d, x);
+    let r = tree::place_of(notes, a + 2 + 2 * n, d, x);
     if r == d {
         return 0;
     }

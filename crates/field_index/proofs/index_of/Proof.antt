@@ -2,7 +2,7 @@ use Prim.Native.Nat.{_+_}
 use mathlib.Core.Path.{refl}
 use lib.ListN.{getD}
 use native.Mathlib.Omega.{arith}
-use Rattle.field_index.proofs.Shown.{shown-no-part, part-room, part-table}
+use Rattle.field_index.proofs.Shown.{shown-no-part, part-room, part-tree}
 use borrow.Author.Needs.{needs}
 use Rattle.field_index.proofs.index_of.Statement.{statement}
 use Rattle.field_index.proofs.index_of.Tie as tie
@@ -45,7 +45,7 @@ cast-d c = omega (arith, c .shared-slice-known4 .given (getD (c .before .before 
 
 index-in-requires : tie.Need-index-in-requires
 index-in-requires c κs = let p = (c .before .before .before .before .before .pre .1 .1 .part (omega arith)) in
-    (omega (arith, part-room p .0), part-room p .1, part-table p)
+    (omega (arith, part-room p .0), part-room p .1, part-tree p)
 
 returns-2 : tie.Need-returns-2
 returns-2 c ms o = c .index-in .ensures ms (o .part (omega arith)) refl refl

@@ -1,0 +1,96 @@
+-- The search for a number by its bits.
+--     seeking-start, -next, -missing   the loop of the search
+--     place-end                        what its end says of the place
+use Prim.Native.Nat.{ℕ, zero, suc, _+_, _-_, _/_, _≤_, _<_}
+use native.Mathlib.Omega.{arith}
+use mathlib.Core.List.{List}
+use mathlib.Core.Logic.{_⊎_, inl, inr}
+use mathlib.Core.Path.{_≡_, refl, sym, ap, subst, _∙_}
+use lib.ListN.{getD}
+use borrow.Author.Tests.{eq-eqb, ne-eqb}
+use Rattle.tree.specs.Tree.{number, linkAt, onward, seek, Tree, Keeps, Missing}
+
+-- one step
+module _ (u : List ℕ) (a x f k b : ℕ) where
+  pub seek-here : number u a k ≡ x → seek u a x (suc f) k b ≡ suc k
+  unfolding seek
+  seek-here e = rw (eq-eqb (number u a k) x e) refl
+
+  pub seek-other : (number u a k ≡ x → ⊥) → seek u a x (suc f) k b ≡ onward (λ j. seek u a x f j (b / 2)) (getD u (linkAt a k b) 0)
+  unfolding seek
+  seek-other ne = rw (ne-eqb (number u a k) x ne) refl
+
+keeps-self : (t : List ℕ) (a n : ℕ) → Keeps t t a n
+keeps-self t a n = record { numbers = λ k l. refl; links = λ k b l ne. refl }
+
+-- after some steps the search for x is at number k, with the bits b left
+pub record Seeking (t : List ℕ) (a n x k b : ℕ) : Type 0 where
+  pub steps : ℕ
+  pub few : steps ≤ k
+  pub bound : k ≤ n
+  pub below : k ≡ n → n ≡ 0
+  pub same : (u : List ℕ) → Keeps t u a n → (f : ℕ) → seek u a x (steps + f) 0 x ≡ seek u a x f k b
+
+pub seeking-start : (t : List ℕ) (a n x : ℕ) → Seeking t a n x 0 x
+seeking-start t a n x =
+    record {
+      steps = 0;
+      few = omega arith;
+      bound = omega arith;
+      below = λ e. sym e;
+      same = λ u k f. let q : 0 + f ≡ f = omega arith in ap (λ g. seek u a x g 0 x) q;
+    }
+
+module _ {t : List ℕ} {a n x k b : ℕ} (o : Seeking t a n x k b) (tree : Tree t a n) (l : k < n) (ne : number t a k ≡ x → ⊥) where
+  -- where another search goes from here
+  from-here : (u : List ℕ) → Keeps t u a n → (f : ℕ) → seek u a x (o .steps + suc f) 0 x ≡ onward (λ j. seek u a x f j (b / 2)) (getD u (linkAt a k b) 0)
+  from-here u keeps f = o .same u keeps (suc f) ∙ seek-other u a x f k b (λ e. ne (sym (keeps .numbers k l) ∙ e))
+
+  pub link-later : {next : ℕ} → getD t (linkAt a k b) 0 ≡ next → (next ≡ 0 → ⊥) → (suc k < next) × (next ≤ n)
+  link-later {next} e nz = go (tree .links k b l)
+    where
+      go : (getD t (linkAt a k b) 0 ≡ 0) ⊎ ((suc k < getD t (linkAt a k b) 0) × (getD t (linkAt a k b) 0 ≤ n)) → (suc k < next) × (next ≤ n)
+      go (inl z) = absurd (nz (sym e ∙ z))
+      go (inr q) = (omega (arith, q .0, e), omega (arith, q .1, e))
+
+  pub seeking-next : {next : ℕ} → getD t (linkAt a k b) 0 ≡ next → (next ≡ 0 → ⊥) → Seeking t a n x (next - 1) (b / 2)
+  seeking-next {next} e nz =
+      let q = link-later e nz in
+      record {
+        steps = suc (o .steps);
+        few = omega (arith, o .few, q .0);
+        bound = omega (arith, q .1);
+        below = λ z. omega (arith, z, q .0, q .1);
+        same = λ u keeps f.
+            let more : suc (o .steps) + f ≡ o .steps + suc f = omega arith in
+            let on : getD u (linkAt a k b) 0 ≡ suc (next - 1) = keeps .links k b l (λ z. nz (sym e ∙ z)) ∙ e ∙ omega (arith, q .0) in
+            ap (λ g. seek u a x g 0 x) more ∙ from-here u keeps f ∙ ap (onward (λ j. seek u a x f j (b / 2))) on;
+      }
+
+  pub seeking-missing : getD t (linkAt a k b) 0 ≡ 0 → Missing t a n x (linkAt a k b)
+  seeking-missing z =
+      record {
+        owner = k;
+        bits = b;
+        below = l;
+        here = refl;
+        zero = z;
+        none = λ j c e.
+            let all : n ≡ o .steps + suc (n - 1 - o .steps) = omega (arith, o .few) in
+            let is : seek t a x n 0 x ≡ suc j = subst (λ y. seek t a y n 0 y ≡ suc j) e (tree .found j c) in
+            let no : seek t a x n 0 x ≡ 0 =
+            ap (λ g. seek t a x g 0 x) all ∙ from-here t (keeps-self t a n) (n - 1 - o .steps) ∙ ap (onward (λ i. seek t a x (n - 1 - o .steps) i (b / 2))) z in
+            let w : 0 ≡ suc j = sym no ∙ is in
+            omega (arith, w);
+        new = λ u keeps at here.
+            let f = n - 1 - o .steps in
+            let all : n + 1 ≡ o .steps + suc (suc f) = omega (arith, o .few) in
+            ap (λ g. seek u a x g 0 x) all ∙ from-here u keeps (suc f) ∙ ap (onward (λ i. seek u a x (suc f) i (b / 2))) at ∙ seek-here u a x f n (b / 2) here;
+      }
+
+-- two places of one number are the same
+pub same-place : {t : List ℕ} {a n : ℕ} → Tree t a n → (i j : ℕ) → i < n → j < n → number t a i ≡ number t a j → i ≡ j
+same-place {t} {a} {n} tree i j c d e =
+    let p : seek t a (number t a j) n 0 (number t a j) ≡ suc i = subst (λ y. seek t a y n 0 y ≡ suc i) e (tree .found i c) in
+    let q : suc i ≡ suc j = sym p ∙ tree .found j d in
+    omega (arith, q)

@@ -1,0 +1,79 @@
+-- A tree of distinct numbers in a slice, three places for each from a on, in the order of their entry: the number, and a link for each value
+-- of a bit. The search for a number starts at the first, and goes on by its bits, the lowest first. A link is one more than the place to
+-- which it leads, and 0 where there is none.
+use Prim.Native.Nat.{ℕ, zero, suc, _+_, _*_, _/_, _%_, _≤_, _<_}
+use mathlib.Core.Bool.{cond}
+use mathlib.Core.List.{List}
+use mathlib.Core.Logic.{_⊎_}
+use mathlib.Core.Path.{_≡_}
+use lib.Dec.{eqb}
+use lib.ListN.{length, getD}
+use Rattle.table.specs.Table.{Within, grown}
+use Rattle.tree.specs.declared.End.{End}
+use Rattle.tree.specs.declared.End.the-variants.{At, Link}
+
+-- number k
+abbrev pub number : List ℕ → ℕ → ℕ → ℕ
+number t a k = getD t (a + 3 * k) 0
+
+-- where the link of number k for the lowest of the bits b stands
+abbrev pub linkAt : ℕ → ℕ → ℕ → ℕ
+linkAt a k b = a + 3 * k + 1 + b % 2
+
+-- on along a link
+abbrev pub onward : (ℕ → ℕ) → ℕ → ℕ
+onward go zero = 0
+onward go (suc k) = go k
+
+-- one more than the place of x, by a search of f steps at most from number k on, where b has the bits that are left; 0 where it ends
+unfoldable pub seek : List ℕ → ℕ → ℕ → ℕ → ℕ → ℕ → ℕ
+seek t a x zero k b = 0
+seek t a x (suc f) k b = cond (eqb (number t a k) x) (suc k) (onward (λ j. seek t a x f j (b / 2)) (getD t (linkAt a k b) 0))
+
+-- n numbers, each of which is found; a link leads to a later one
+pub record Tree (t : List ℕ) (a n : ℕ) : Type 0 where
+  pub within : a + 3 * n ≤ length t
+  pub links : (k b : ℕ) → k < n → (getD t (linkAt a k b) 0 ≡ 0) ⊎ ((suc k < getD t (linkAt a k b) 0) × (getD t (linkAt a k b) 0 ≤ n))
+  pub found : (k : ℕ) → k < n → seek t a (number t a k) n 0 (number t a k) ≡ suc k
+
+-- the numbers and the links of n numbers are as in t, but for links that lead nowhere there
+pub record Keeps (t u : List ℕ) (a n : ℕ) : Type 0 where
+  pub numbers : (k : ℕ) → k < n → number u a k ≡ number t a k
+  pub links : (k b : ℕ) → k < n → (getD t (linkAt a k b) 0 ≡ 0 → ⊥) → getD u (linkAt a k b) 0 ≡ getD t (linkAt a k b) 0
+
+-- x is none of the n numbers; the search for it ends at the link at p, and finds it once that leads to it as number n
+pub record Missing (t : List ℕ) (a n x p : ℕ) : Type 0 where
+  pub owner : ℕ
+  pub bits : ℕ
+  pub below : owner < n
+  pub here : p ≡ linkAt a owner bits
+  pub zero : getD t p 0 ≡ 0
+  pub none : (k : ℕ) → k < n → number t a k ≡ x → ⊥
+  pub new : (u : List ℕ) → Keeps t u a n → getD u p 0 ≡ suc n → number u a n ≡ x → seek u a x (n + 1) 0 x ≡ suc n
+
+-- where the search for x ends: at a number, or at n where there are none; or at a link
+abbrev pub EndOf : List ℕ → ℕ → ℕ → ℕ → End → Type 0
+EndOf t a n x (At k) = (k ≤ n) × (k < n → number t a k ≡ x) × (k ≡ n → n ≡ 0)
+EndOf t a n x (Link p) = Missing t a n x p
+
+-- r is the place of x among the n numbers, or n where x is none of them
+pub record PlaceOf (t : List ℕ) (a n x r : ℕ) : Type 0 where
+  pub within : r ≤ n
+  pub here : r < n → number t a r ≡ x
+  pub only : (k : ℕ) → k < n → number t a k ≡ x → k ≡ r
+
+-- x is number n of u, with links that lead nowhere, and all else is as in t
+pub record Node (t : List ℕ) (a n x : ℕ) (u : List ℕ) : Type 0 where
+  pub size : length u ≡ length t
+  pub here : number u a n ≡ x
+  pub links : (b : ℕ) → getD u (linkAt a n b) 0 ≡ 0
+  pub before : (i : ℕ) → i < a + 3 * n → getD u i 0 ≡ getD t i 0
+  pub behind : (i : ℕ) → a + 3 * n + 3 ≤ i → getD u i 0 ≡ getD t i 0
+
+-- x has the place r, and is put there where it was none of the n numbers
+pub record Entered (t : List ℕ) (a n x r : ℕ) (t′ : List ℕ) : Type 0 where
+  pub within : r ≤ n
+  pub all : Tree t′ a (grown n r)
+  pub here : number t′ a r ≡ x
+  pub old : (k : ℕ) → k < n → number t′ a k ≡ number t a k
+  pub only : Within a (a + 3 * n + 3) t t′
