@@ -4,16 +4,18 @@
 use Prim.Native.Nat.{ℕ, zero, suc, _+_, _*_, _/_, _%_, _≤_, _<_}
 use native.Mathlib.Omega.{arith}
 use native.Mathlib.Decide.{decLt, ℕ-discrete}
-use native.Mathlib.Nat.{mod-lt}
+use mathlib.Core.Bool.{cond}
 use mathlib.Core.List.{List}
+use lib.Dec.{eqb}
 use mathlib.Core.Logic.{_⊎_, inl, inr, by-cases}
 use mathlib.Core.Path.{_≡_, refl, sym, ap, subst, _∙_}
 use lib.ListN.{length, length-set, getD, set}
 use lib.Seq.{getD-set-same, getD-set-other}
 use borrow.Author.Tests.{eq-eqb, ne-eqb}
-use Rattle.tree.specs.Tree.{number, linkAt, onward, seek, Tree, Keeps, Missing, EndOf, PlaceOf, Node, Entered}
+use Rattle.tree.specs.Tree.{number, linkAt, onward, seek, upper, Alike, Deeper, Tree, Keeps, Missing, EndOf, PlaceOf, Node, Entered}
 use Rattle.tree.specs.declared.End.{End}
 use Rattle.tree.specs.declared.End.the-variants.{At, Link}
+use Rattle.tree.proofs.Bits.{bit, alike-equal}
 use Rattle.tree.proofs.Seeking.{seek-here, seek-other, same-place}
 
 -- an end that a `match` has taken apart
@@ -22,10 +24,6 @@ end-at t a n x e g = subst (EndOf t a n x) e g
 
 pub end-link : (t : List ℕ) (a n x : ℕ) {r : End} {p : ℕ} → r ≡ Link p → EndOf t a n x r → Missing t a n x p
 end-link t a n x e g = subst (EndOf t a n x) e g
-
--- a bit is 0 or 1
-pub bit : (b : ℕ) → b % 2 < 2
-bit b = mod-lt b (omega arith)
 
 -- x is put behind n numbers
 pub node-put : (t : List ℕ) (a n x : ℕ) → a + 3 * n + 3 ≤ length t → Node t a n x (set (set (set t (a + 3 * n) x) (a + 3 * n + 1) 0) (a + 3 * n + 2) 0)
@@ -68,9 +66,9 @@ module _ {t u : List ℕ} {a n : ℕ} (tree : Tree t a n) (keeps : Keeps t u a n
           ∙ ap (onward (λ i. seek u a x (f + e) i (b / 2))) (keeps .links k b l (λ z. omega (arith, z, q)) ∙ q)
           ∙ later i there r
         where
-          further : (getD t (linkAt a k b) 0 ≡ 0) ⊎ ((suc k < getD t (linkAt a k b) 0) × (getD t (linkAt a k b) 0 ≤ n)) → i < n
+          further : (getD t (linkAt a k b) 0 ≡ 0) ⊎ Deeper t a n (tree .depth) k b → i < n
           further (inl z) = absurd (omega (arith, z, q))
-          further (inr w) = omega (arith, w .1, q)
+          further (inr w) = omega (arith, w .here, w .below, q)
 
       go : ((i : ℕ) → i < n → seek t a x f i (b / 2) ≡ suc j → seek u a x (f + e) i (b / 2) ≡ suc j) → seek u a x (suc (f + e)) k b ≡ suc j
       go later =
@@ -82,12 +80,32 @@ module _ {t u : List ℕ} {a n : ℕ} (tree : Tree t a n) (keeps : Keeps t u a n
 pub link-room : {t : List ℕ} {a n x p : ℕ} → Tree t a n → Missing t a n x p → p < length t
 link-room tree m = omega (arith, tree .within, m .here, m .below, bit (m .bits))
 
+-- a link that stays leads where it did
+deeper-same : {t u : List ℕ} {a n m : ℕ} {depth : ℕ → ℕ} → Keeps t u a n → (deep : ℕ → ℕ) → ((i : ℕ) → i < n → deep i ≡ depth i) → n ≤ m → (k b : ℕ) → k < n
+    → getD u (linkAt a k b) 0 ≡ getD t (linkAt a k b) 0 → (getD t (linkAt a k b) 0 ≡ 0) ⊎ Deeper t a n depth k b → (getD u (linkAt a k b) 0 ≡ 0) ⊎ Deeper u a m deep k b
+deeper-same keeps deep is more k b l e (inl z) = inl (e ∙ z)
+deeper-same keeps deep is more k b l e (inr w) =
+    inr
+    (record {
+      to = w .to;
+      here = e ∙ w .here;
+      later = w .later;
+      below = omega (arith, w .below);
+      down = is (w .to) (w .below) ∙ w .down ∙ ap suc (sym (is k l));
+      alike = rw (is k l, keeps .numbers k l, keeps .numbers (w .to) (w .below)) (w .alike);
+      bit = rw (is k l, keeps .numbers (w .to) (w .below)) (w .bit);
+    })
+
 -- a tree stays where its places do
 pub tree-same : {t : List ℕ} (u : List ℕ) {a n : ℕ} → Tree t a n → ((i : ℕ) → a ≤ i → i < a + 3 * n → getD u i 0 ≡ getD t i 0) → length t ≤ length u → Tree u a n
 tree-same {t} u {a} {n} tree same long =
     record {
       within = omega (arith, tree .within);
-      links = λ k b l. rw (same (linkAt a k b) (omega arith) (omega (arith, bit b))) (tree .links k b l);
+      small = λ k l. rw (number-same k l) (tree .small k l);
+      depth = tree .depth;
+      root = tree .root;
+      low = tree .low;
+      links = λ k b l. deeper-same keeps (tree .depth) (λ i c. refl) (omega arith) k b l (same (linkAt a k b) (omega arith) (omega (arith, bit b))) (tree .links k b l);
       found = λ k l.
           let more : n + 0 ≡ n = omega arith in
           rw (number-same k l)
@@ -103,10 +121,19 @@ tree-same {t} u {a} {n} tree same long =
 
 -- no number
 pub tree-none : (t : List ℕ) (a : ℕ) → a ≤ length t → Tree t a 0
-tree-none t a l = record { within = omega arith; links = λ k b c. absurd (omega arith); found = λ k c. absurd (omega arith) }
+tree-none t a l =
+    record {
+      within = omega arith;
+      small = λ k c. absurd (omega arith);
+      depth = λ k. 0;
+      root = refl;
+      low = λ k c. absurd (omega arith);
+      links = λ k b c. absurd (omega arith);
+      found = λ k c. absurd (omega arith);
+    }
 
 -- x is put as number n where the search for it ended
-module _ {t : List ℕ} {a n x p : ℕ} (tree : Tree t a n) (m : Missing t a n x p) {u : List ℕ} (w : Node (set t p (n + 1)) a n x u) where
+module _ {t : List ℕ} {a n x p : ℕ} (tree : Tree t a n) (m : Missing t a n x p) (fits : x < 65536) {u : List ℕ} (w : Node (set t p (n + 1)) a n x u) where
   place : (p < a + 3 * n) × (a ≤ p)
   place = (omega (arith, m .here, m .below, bit (m .bits)), omega (arith, m .here))
 
@@ -126,19 +153,56 @@ module _ {t : List ℕ} {a n x p : ℕ} (tree : Tree t a n) (m : Missing t a n x
         links = λ k b l nz. front (linkAt a k b) (omega (arith, bit b)) (λ z. nz (ap (λ i. getD t i 0) z ∙ m .zero));
       }
 
-  links : (k b : ℕ) → k < n + 1 → (getD u (linkAt a k b) 0 ≡ 0) ⊎ ((suc k < getD u (linkAt a k b) 0) × (getD u (linkAt a k b) 0 ≤ n + 1))
+  -- how deep the numbers are, x one deeper than the number whose link leads to it
+  depth : ℕ → ℕ
+  depth k = cond (eqb k n) (suc (tree .depth (m .owner))) (tree .depth k)
+
+  depth-old : (k : ℕ) → k < n → depth k ≡ tree .depth k
+  unfolding depth
+  depth-old k l = rw (ne-eqb k n (λ z. omega (arith, z)))
+
+  depth-new : depth n ≡ suc (tree .depth (m .owner))
+  unfolding depth
+  depth-new = rw (eq-eqb n n refl)
+
+  -- a number that is 16 deep and like x would be x
+  owner-low : tree .depth (m .owner) < 16
+  owner-low =
+      by-cases (decLt (tree .depth (m .owner)) 16) (λ (c : tree .depth (m .owner) < 16). c)
+      (λ (c : ¬ (tree .depth (m .owner) < 16)).
+      let z : tree .depth (m .owner) ≡ 16 = omega (arith, tree .low (m .owner) (m .below)) in
+      let like : Alike 16 (number t a (m .owner)) x = subst (λ d. Alike d (number t a (m .owner)) x) z (m .along tree .1) in
+      absurd (m .none (m .owner) (m .below) (alike-equal (tree .small (m .owner) (m .below)) fits like)))
+
+  -- the link that leads to x
+  link-new : (k b : ℕ) → linkAt a k b ≡ p → Deeper u a (n + 1) depth k b
+  link-new k b z =
+      let own : k ≡ m .owner = omega (arith, z, m .here, bit b, bit (m .bits)) in
+      let same : b % 2 ≡ m .bits % 2 = omega (arith, z, m .here, own) in
+      let at : depth k ≡ tree .depth (m .owner) = ap depth own ∙ depth-old (m .owner) (m .below) in
+      record {
+        to = n;
+        here = ap (λ i. getD u i 0) z ∙ linked ∙ omega arith;
+        later = omega (arith, own, m .below);
+        below = omega arith;
+        down = depth-new ∙ ap suc (sym at);
+        alike = rw (at, own, numbers (m .owner) (m .below), w .here) (m .along tree .1);
+        bit = rw (at, w .here) (ap (_% 2) (m .along tree .0) ∙ sym same);
+      }
+
+  links : (k b : ℕ) → k < n + 1 → (getD u (linkAt a k b) 0 ≡ 0) ⊎ Deeper u a (n + 1) depth k b
   links k b l =
       by-cases (decLt k n)
       (λ (c : k < n).
-      by-cases (ℕ-discrete (linkAt a k b) p)
-      (λ (z : linkAt a k b ≡ p). let v : getD u (linkAt a k b) 0 ≡ n + 1 = ap (λ i. getD u i 0) z ∙ linked in inr (omega (arith, v), omega (arith, v)))
-      (λ (z : ¬ (linkAt a k b ≡ p)). old c (front (linkAt a k b) (omega (arith, bit b)) z) (tree .links k b c)))
+      by-cases (ℕ-discrete (linkAt a k b) p) (λ (z : linkAt a k b ≡ p). inr (link-new k b z))
+      (λ (z : ¬ (linkAt a k b ≡ p)). deeper-same keeps depth depth-old (omega arith) k b c (front (linkAt a k b) (omega (arith, bit b)) z) (tree .links k b c)))
       (λ (c : ¬ (k < n)). let z : k ≡ n = omega arith in inl (ap (λ i. getD u (linkAt a i b) 0) z ∙ w .links b))
-    where
-      old : k < n → getD u (linkAt a k b) 0 ≡ getD t (linkAt a k b) 0 → (getD t (linkAt a k b) 0 ≡ 0) ⊎ ((suc k < getD t (linkAt a k b) 0) × (getD t (linkAt a k b) 0 ≤ n))
-          → (getD u (linkAt a k b) 0 ≡ 0) ⊎ ((suc k < getD u (linkAt a k b) 0) × (getD u (linkAt a k b) 0 ≤ n + 1))
-      old c e (inl z) = inl (e ∙ z)
-      old c e (inr q) = inr (omega (arith, e, q .0), omega (arith, e, q .1))
+
+  -- a fact of the old numbers and of x
+  each : (P : ℕ → Type 0) → ((k : ℕ) → k < n → P k) → P n → (k : ℕ) → k < n + 1 → P k
+  each P old new k l =
+      by-cases (decLt k n) (λ (c : k < n). old k c)
+      (λ (c : ¬ (k < n)). let z : n ≡ k = omega arith in subst P z new)
 
   found : (k : ℕ) → k < n + 1 → seek u a (number u a k) (n + 1) 0 (number u a k) ≡ suc k
   found k l =
@@ -152,7 +216,16 @@ module _ {t : List ℕ} {a n x p : ℕ} (tree : Tree t a n) (m : Missing t a n x
   entered-new room =
       record {
         within = omega arith;
-        all = rw (eq-eqb n n refl) (record { within = omega (arith, w .size, length-set t p (n + 1)); links = links; found = found });
+        all = rw (eq-eqb n n refl)
+            (record {
+              within = omega (arith, w .size, length-set t p (n + 1));
+              small = each (λ k. number u a k < 65536) (λ k l. rw (numbers k l) (tree .small k l)) (rw (w .here) fits);
+              depth = depth;
+              root = depth-old 0 (omega (arith, m .below)) ∙ tree .root;
+              low = each (λ k. depth k ≤ 16) (λ k l. rw (depth-old k l) (tree .low k l)) (rw depth-new owner-low);
+              links = links;
+              found = found;
+            });
         here = w .here;
         old = numbers;
         only = record {
@@ -163,13 +236,17 @@ module _ {t : List ℕ} {a n x p : ℕ} (tree : Tree t a n) (m : Missing t a n x
       }
 
 -- x is the first of all
-pub entered-first : {t : List ℕ} {a n x : ℕ} {u : List ℕ} → n ≡ 0 → Node t a n x u → a + 3 * n + 3 ≤ length t → Entered t a n x n u
-entered-first {t} {a} {n} {x} {u} z w room =
+pub entered-first : {t : List ℕ} {a n x : ℕ} {u : List ℕ} → n ≡ 0 → x < 65536 → Node t a n x u → a + 3 * n + 3 ≤ length t → Entered t a n x n u
+entered-first {t} {a} {n} {x} {u} z fits w room =
     record {
       within = omega arith;
       all = rw (eq-eqb n n refl)
           (record {
             within = omega (arith, w .size);
+            small = λ k l. let q : k ≡ n = omega (arith, z) in rw (q, w .here) fits;
+            depth = λ k. 0;
+            root = refl;
+            low = λ k l. omega arith;
             links = λ k b l. let q : k ≡ n = omega (arith, z) in inl (ap (λ i. getD u (linkAt a i b) 0) q ∙ w .links b);
             found = λ k l.
                 let q : k ≡ 0 = omega (arith, z) in

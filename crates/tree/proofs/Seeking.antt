@@ -1,14 +1,15 @@
 -- The search for a number by its bits.
 --     seeking-start, -next, -missing   the loop of the search
 --     place-end                        what its end says of the place
-use Prim.Native.Nat.{ℕ, zero, suc, _+_, _-_, _/_, _≤_, _<_}
+use Prim.Native.Nat.{ℕ, zero, suc, _+_, _-_, _/_, _%_, _≤_, _<_}
 use native.Mathlib.Omega.{arith}
 use mathlib.Core.List.{List}
 use mathlib.Core.Logic.{_⊎_, inl, inr}
 use mathlib.Core.Path.{_≡_, refl, sym, ap, subst, _∙_}
 use lib.ListN.{getD}
 use borrow.Author.Tests.{eq-eqb, ne-eqb}
-use Rattle.tree.specs.Tree.{number, linkAt, onward, seek, Tree, Keeps, Missing}
+use Rattle.tree.specs.Tree.{number, linkAt, onward, seek, upper, Alike, Deeper, Tree, Keeps, Missing}
+use Rattle.tree.proofs.Bits.{alike-turned}
 
 -- one step
 module _ (u : List ℕ) (a x f k b : ℕ) where
@@ -29,6 +30,7 @@ pub record Seeking (t : List ℕ) (a n x k b : ℕ) : Type 0 where
   pub few : steps ≤ k
   pub bound : k ≤ n
   pub below : k ≡ n → n ≡ 0
+  pub along : (tree : Tree t a n) → (upper (tree .depth k) x ≡ b) × Alike (tree .depth k) (number t a k) x
   pub same : (u : List ℕ) → Keeps t u a n → (f : ℕ) → seek u a x (steps + f) 0 x ≡ seek u a x f k b
 
 pub seeking-start : (t : List ℕ) (a n x : ℕ) → Seeking t a n x 0 x
@@ -38,6 +40,7 @@ seeking-start t a n x =
       few = omega arith;
       bound = omega arith;
       below = λ e. sym e;
+      along = λ tree. rw (tree .root) (refl, tt);
       same = λ u k f. let q : 0 + f ≡ f = omega arith in ap (λ g. seek u a x g 0 x) q;
     }
 
@@ -49,9 +52,21 @@ module _ {t : List ℕ} {a n x k b : ℕ} (o : Seeking t a n x k b) (tree : Tree
   pub link-later : {next : ℕ} → getD t (linkAt a k b) 0 ≡ next → (next ≡ 0 → ⊥) → (suc k < next) × (next ≤ n)
   link-later {next} e nz = go (tree .links k b l)
     where
-      go : (getD t (linkAt a k b) 0 ≡ 0) ⊎ ((suc k < getD t (linkAt a k b) 0) × (getD t (linkAt a k b) 0 ≤ n)) → (suc k < next) × (next ≤ n)
+      go : (getD t (linkAt a k b) 0 ≡ 0) ⊎ Deeper t a n (tree .depth) k b → (suc k < next) × (next ≤ n)
       go (inl z) = absurd (nz (sym e ∙ z))
-      go (inr q) = (omega (arith, q .0, e), omega (arith, q .1, e))
+      go (inr q) = (omega (arith, q .here, q .later, e), omega (arith, q .here, q .below, e))
+
+  -- the bits that are left, and those in which the next number is like x
+  along-next : {next : ℕ} → getD t (linkAt a k b) 0 ≡ next → (next ≡ 0 → ⊥) → (any : Tree t a n)
+      → (upper (any .depth (next - 1)) x ≡ b / 2) × Alike (any .depth (next - 1)) (number t a (next - 1)) x
+  along-next {next} e nz any = go (any .links k b l)
+    where
+      go : (getD t (linkAt a k b) 0 ≡ 0) ⊎ Deeper t a n (any .depth) k b → (upper (any .depth (next - 1)) x ≡ b / 2) × Alike (any .depth (next - 1)) (number t a (next - 1)) x
+      go (inl z) = absurd (nz (sym e ∙ z))
+      go (inr q) =
+          let is : next - 1 ≡ q .to = omega (arith, q .here, e) in
+          let h = o .along any in
+          rw (is, q .down) (ap (_/ 2) (h .0), (alike-turned (any .depth k) (number t a k) x (number t a (q .to)) (q .alike) (h .1), q .bit ∙ sym (ap (_% 2) (h .0))))
 
   pub seeking-next : {next : ℕ} → getD t (linkAt a k b) 0 ≡ next → (next ≡ 0 → ⊥) → Seeking t a n x (next - 1) (b / 2)
   seeking-next {next} e nz =
@@ -61,6 +76,7 @@ module _ {t : List ℕ} {a n x k b : ℕ} (o : Seeking t a n x k b) (tree : Tree
         few = omega (arith, o .few, q .0);
         bound = omega (arith, q .1);
         below = λ z. omega (arith, z, q .0, q .1);
+        along = along-next e nz;
         same = λ u keeps f.
             let more : suc (o .steps) + f ≡ o .steps + suc f = omega arith in
             let on : getD u (linkAt a k b) 0 ≡ suc (next - 1) = keeps .links k b l (λ z. nz (sym e ∙ z)) ∙ e ∙ omega (arith, q .0) in
@@ -82,6 +98,7 @@ module _ {t : List ℕ} {a n x k b : ℕ} (o : Seeking t a n x k b) (tree : Tree
             ap (λ g. seek t a x g 0 x) all ∙ from-here t (keeps-self t a n) (n - 1 - o .steps) ∙ ap (onward (λ i. seek t a x (n - 1 - o .steps) i (b / 2))) z in
             let w : 0 ≡ suc j = sym no ∙ is in
             omega (arith, w);
+        along = o .along;
         new = λ u keeps at here.
             let f = n - 1 - o .steps in
             let all : n + 1 ≡ o .steps + suc (suc f) = omega (arith, o .few) in

@@ -30,10 +30,36 @@ unfoldable pub seek : List ℕ → ℕ → ℕ → ℕ → ℕ → ℕ → ℕ
 seek t a x zero k b = 0
 seek t a x (suc f) k b = cond (eqb (number t a k) x) (suc k) (onward (λ j. seek t a x f j (b / 2)) (getD t (linkAt a k b) 0))
 
--- n numbers, each of which is found; a link leads to a later one
+-- x without its d lowest bits
+abbrev pub upper : ℕ → ℕ → ℕ
+upper zero x = x
+upper (suc d) x = upper d x / 2
+
+-- x and y have the same d lowest bits
+abbrev pub Alike : ℕ → ℕ → ℕ → Type 0
+Alike zero x y = Unit {0}
+Alike (suc d) x y = Alike d x y × (upper d x % 2 ≡ upper d y % 2)
+
+-- the link of number k for the lowest bit of b leads to a later number, which is one deeper, has as many of the lowest bits of number k as that is
+-- deep, and then this bit
+pub record Deeper (t : List ℕ) (a n : ℕ) (depth : ℕ → ℕ) (k b : ℕ) : Type 0 where
+  pub to : ℕ
+  pub here : getD t (linkAt a k b) 0 ≡ suc to
+  pub later : k < to
+  pub below : to < n
+  pub down : depth to ≡ suc (depth k)
+  pub alike : Alike (depth k) (number t a k) (number t a to)
+  pub bit : upper (depth k) (number t a to) % 2 ≡ b % 2
+
+-- n numbers, each of which is found; each link leads nowhere or one deeper, and none of them is deeper than 16, so that no search takes more than
+-- 17 steps
 pub record Tree (t : List ℕ) (a n : ℕ) : Type 0 where
   pub within : a + 3 * n ≤ length t
-  pub links : (k b : ℕ) → k < n → (getD t (linkAt a k b) 0 ≡ 0) ⊎ ((suc k < getD t (linkAt a k b) 0) × (getD t (linkAt a k b) 0 ≤ n))
+  pub small : (k : ℕ) → k < n → number t a k < 65536
+  pub depth : ℕ → ℕ
+  pub root : depth 0 ≡ 0
+  pub low : (k : ℕ) → k < n → depth k ≤ 16
+  pub links : (k b : ℕ) → k < n → (getD t (linkAt a k b) 0 ≡ 0) ⊎ Deeper t a n depth k b
   pub found : (k : ℕ) → k < n → seek t a (number t a k) n 0 (number t a k) ≡ suc k
 
 -- the numbers and the links of n numbers are as in t, but for links that lead nowhere there
@@ -49,6 +75,7 @@ pub record Missing (t : List ℕ) (a n x p : ℕ) : Type 0 where
   pub here : p ≡ linkAt a owner bits
   pub zero : getD t p 0 ≡ 0
   pub none : (k : ℕ) → k < n → number t a k ≡ x → ⊥
+  pub along : (tree : Tree t a n) → (upper (tree .depth owner) x ≡ bits) × Alike (tree .depth owner) (number t a owner) x
   pub new : (u : List ℕ) → Keeps t u a n → getD u p 0 ≡ suc n → number u a n ≡ x → seek u a x (n + 1) 0 x ≡ suc n
 
 -- where the search for x ends: at a number, or at n where there are none; or at a link

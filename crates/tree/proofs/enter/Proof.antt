@@ -45,13 +45,13 @@ same-length-2 : tie.Need-same-length-2
 same-length-2 c = search needs
 
 returns-2 : tie.Need-returns-2
-returns-2 c = let e = end-at _ _ _ _ (c .before .before .before .before .before .before .«end» .given .1) (c .before .before .before .before .before .before .before .before .search .ensures) in entered-first (e .2 (omega (arith, e .0, c .before .before .before .before .if1 .left))) (c .before .before .put .ensures) (c .before .before .before .before .before .before .before .before .before .before .before .pre .1)
+returns-2 c = let e = end-at _ _ _ _ (c .before .before .before .before .before .before .«end» .given .1) (c .before .before .before .before .before .before .before .before .search .ensures) in entered-first (e .2 (omega (arith, e .0, c .before .before .before .before .if1 .left))) (omega arith) (c .before .before .put .ensures) (c .before .before .before .before .before .before .before .before .before .before .before .pre .1)
 
 same-length-3 : tie.Need-same-length-3
 same-length-3 c = c .before .before .put2 .ensures .size ∙ length-set (c .before .before .before .before .before .before .before .before .before .before .args .t .now) (c .before .before .before .before .before .end2 .given .0 .0) (c .before .before .before .before .before .before .before .before .before .before .args .n + 1)
 
 returns-3 : tie.Need-returns-3
-returns-3 c = entered-new (c .before .before .before .before .before .before .before .before .before .before .pre .0) (end-link _ _ _ _ (c .before .before .before .before .before .end2 .given .1) (c .before .before .before .before .before .before .before .search .ensures)) (c .before .before .put2 .ensures) (c .before .before .before .before .before .before .before .before .before .before .pre .1)
+returns-3 c = entered-new (c .before .before .before .before .before .before .before .before .before .before .pre .0) (end-link _ _ _ _ (c .before .before .before .before .before .end2 .given .1) (c .before .before .before .before .before .before .before .search .ensures)) (omega arith) (c .before .before .put2 .ensures) (c .before .before .before .before .before .before .before .before .before .before .pre .1)
 
 pub enter-spec : {M : Type 1} → statement M
 enter-spec =

@@ -4,7 +4,7 @@ use mathlib.Core.Path.{refl}
 use native.Mathlib.Omega.{arith}
 use borrow.Author.Needs.{needs}
 use Rattle.tree.proofs.Seeking.{Seeking, seeking-start, link-later, seeking-next, seeking-missing}
-use Rattle.tree.proofs.Growing.{bit}
+use Rattle.tree.proofs.Bits.{bit}
 use Rattle.tree.proofs.search.Statement.{statement}
 use Rattle.tree.proofs.search.Tie as tie
 
