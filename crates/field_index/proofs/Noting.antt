@@ -13,7 +13,7 @@ use lib.ListN.{length, length-set, getD, set}
 use lib.Seq.{getD-set-same, getD-set-other}
 use Rattle.meaning.specs.Tree.{Member}
 use Rattle.table.specs.Table.{member, Last, Members, grown, Within}
-use Rattle.tree.specs.Tree.{number, Tree, Entered}
+use Rattle.tree.specs.Tree.{numberAt, Tree, Entered}
 use Rattle.tree.proofs.Seeking.{same-place}
 use Rattle.tree.proofs.Growing.{tree-same}
 use Rattle.field_index.specs.Noted.{nameAt, treeAt, IsFirst, IsLast, HasName, NotedTo}
@@ -59,7 +59,7 @@ pub record Written (t u : List ℕ) (a n d k r : ℕ) : Type 0 where
 module _ {t v : List ℕ} (u : List ℕ) {a n d k x r : ℕ} (e : Entered t (treeAt a n) d x r v) (same : SameTree v u (treeAt a n) (grown d r)) (long : length v ≤ length u)
     (w : Written t u a n d k r) (ms : List Member) (o : NotedTo ms t a n d k) (is : nameAt ms k ≡ x) where
   abbrev name : ℕ → ℕ
-  name = number u (treeAt a n)
+  name = numberAt u (treeAt a n)
 
   tree : Tree u (treeAt a n) (grown d r)
   tree = tree-same u (e .all) same long
@@ -77,7 +77,7 @@ module _ {t v : List ℕ} (u : List ℕ) {a n d k x r : ℕ} (e : Entered t (tre
   named : name r ≡ x
   named = same (treeAt a n + 3 * r) (omega arith) (omega (arith, here-grown)) ∙ e .here
 
-  name-old : (q : ℕ) → q < d → name q ≡ number t (treeAt a n) q
+  name-old : (q : ℕ) → q < d → name q ≡ numberAt t (treeAt a n) q
   name-old q l = same (treeAt a n + 3 * q) (omega arith) (omega (arith, grown-old q l)) ∙ e .old q l
 
   -- a name that is not the one entered is not the field's
@@ -123,7 +123,7 @@ module _ {t v : List ℕ} (u : List ℕ) {a n d k x r : ℕ} (e : Entered t (tre
             here = is;
             none = λ i m p.
                 let h = o .all i m in
-                let y : number t (treeAt a n) (h .0) ≡ x = h .2 ∙ p in
+                let y : numberAt t (treeAt a n) (h .0) ≡ x = h .2 ∙ p in
                 apart (h .0) r (omega (arith, h .1)) here-grown (name-old (h .0) (h .1) ∙ y ∙ sym named);
           }))
           (λ (z : ¬ (q ≡ r)). absurd (c (below q l z))))

@@ -14,7 +14,7 @@ use Rattle.meaning.specs.Limits.{definitionLimit}
 use Rattle.meaning.specs.Sizes.{isEnumWithConstantSizeVariants}
 use Rattle.bundle.specs.Definitions.{typeAt, bundleOf, placesEnd}
 use Rattle.sizes.specs.Scan.{referencesFrom}
-use Rattle.tree.specs.Tree.{Tree, number}
+use Rattle.tree.specs.Tree.{Tree, numberAt}
 use Rattle.fields.specs.Sought.{named, shown}
 
 -- the name of field k
@@ -39,15 +39,15 @@ pub record IsLast (ms : List Member) (k x l : ℕ) : Type 0 where
 
 -- one of d names is x
 abbrev pub HasName : List ℕ → ℕ → ℕ → ℕ → ℕ → Type 0
-HasName notes a n d x = (r : ℕ) × (r < d) × (number notes (treeAt a n) r ≡ x)
+HasName notes a n d x = (r : ℕ) × (r < d) × (numberAt notes (treeAt a n) r ≡ x)
 
 -- the first k of the fields ms are noted in the part at a, which is one for n fields, and have d names
 pub record NotedTo (ms : List Member) (notes : List ℕ) (a n d k : ℕ) : Type 0 where
   pub tree : Tree notes (treeAt a n) d
   pub few : d ≤ k
   pub all : (i : ℕ) → i < k → HasName notes a n d (nameAt ms i)
-  pub firsts : (r : ℕ) → r < d → IsFirst ms k (number notes (treeAt a n) r) (getD notes (a + 2 + r) 0)
-  pub lasts : (r : ℕ) → r < d → IsLast ms k (number notes (treeAt a n) r) (getD notes (a + 2 + n + r) 0)
+  pub firsts : (r : ℕ) → r < d → IsFirst ms k (numberAt notes (treeAt a n) r) (getD notes (a + 2 + r) 0)
+  pub lasts : (r : ℕ) → r < d → IsLast ms k (numberAt notes (treeAt a n) r) (getD notes (a + 2 + n + r) 0)
 
 -- all fields ms are noted in the part at a
 pub record Part (ms : List Member) (notes : List ℕ) (a : ℕ) : Type 0 where

@@ -12,14 +12,14 @@ use mathlib.Core.Path.{_≡_, refl, sym, ap, subst, _∙_}
 use lib.ListN.{length, length-set, getD, set}
 use lib.Seq.{getD-set-same, getD-set-other}
 use borrow.Author.Tests.{eq-eqb, ne-eqb}
-use Rattle.tree.specs.Tree.{number, linkAt, onward, seek, upper, Alike, Deeper, Tree, Keeps, Missing, EndOf, PlaceOf, Node, Entered}
+use Rattle.tree.specs.Tree.{numberAt, linkAt, onward, seek, upper, SameBits, Deeper, Tree, Extends, Missing, EndOf, PlaceOf, Node, Entered}
 use Rattle.tree.specs.declared.End.{End}
 use Rattle.tree.specs.declared.End.the-variants.{At, Link}
-use Rattle.tree.proofs.Bits.{bit, alike-equal}
+use Rattle.tree.proofs.Bits.{bit, same-bits-equal}
 use Rattle.tree.proofs.Seeking.{seek-here, seek-other, same-place}
 
 -- an end that a `match` has taken apart
-pub end-at : (t : List ℕ) (a n x : ℕ) {r : End} {k : ℕ} → r ≡ At k → EndOf t a n x r → (k ≤ n) × (k < n → number t a k ≡ x) × (k ≡ n → n ≡ 0)
+pub end-at : (t : List ℕ) (a n x : ℕ) {r : End} {k : ℕ} → r ≡ At k → EndOf t a n x r → (k ≤ n) × (k < n → numberAt t a k ≡ x) × (k ≡ n → n ≡ 0)
 end-at t a n x e g = subst (EndOf t a n x) e g
 
 pub end-link : (t : List ℕ) (a n x : ℕ) {r : End} {p : ℕ} → r ≡ Link p → EndOf t a n x r → Missing t a n x p
@@ -49,7 +49,7 @@ node-put t a n x room =
     }
 
 -- a number that is found in t is found in u, with some steps more
-module _ {t u : List ℕ} {a n : ℕ} (tree : Tree t a n) (keeps : Keeps t u a n) (x e : ℕ) where
+module _ {t u : List ℕ} {a n : ℕ} (tree : Tree t a n) (extends : Extends t u a n) (x e : ℕ) where
   seek-kept : (f k b j : ℕ) → k < n → seek t a x f k b ≡ suc j → seek u a x (f + e) k b ≡ suc j
   unfolding seek
   seek-kept zero k b j l p = absurd (omega (arith, p))
@@ -57,13 +57,13 @@ module _ {t u : List ℕ} {a n : ℕ} (tree : Tree t a n) (keeps : Keeps t u a n
       let more : suc f + e ≡ suc (f + e) = omega arith in
       ap (λ g. seek u a x g k b) more ∙ go (λ i. seek-kept f i (b / 2) j)
     where
-      on : (v : ℕ) → getD t (linkAt a k b) 0 ≡ v → onward (λ i. seek t a x f i (b / 2)) v ≡ suc j → (number t a k ≡ x → ⊥)
+      on : (v : ℕ) → getD t (linkAt a k b) 0 ≡ v → onward (λ i. seek t a x f i (b / 2)) v ≡ suc j → (numberAt t a k ≡ x → ⊥)
           → ((i : ℕ) → i < n → seek t a x f i (b / 2) ≡ suc j → seek u a x (f + e) i (b / 2) ≡ suc j) → seek u a x (suc (f + e)) k b ≡ suc j
       on zero q r ne later = absurd (omega (arith, r))
       on (suc i) q r ne later =
           let there : i < n = further (tree .links k b l) in
-          seek-other u a x (f + e) k b (λ z. ne (sym (keeps .numbers k l) ∙ z))
-          ∙ ap (onward (λ i. seek u a x (f + e) i (b / 2))) (keeps .links k b l (λ z. omega (arith, z, q)) ∙ q)
+          seek-other u a x (f + e) k b (λ z. ne (sym (extends .numbers k l) ∙ z))
+          ∙ ap (onward (λ i. seek u a x (f + e) i (b / 2))) (extends .links k b l (λ z. omega (arith, z, q)) ∙ q)
           ∙ later i there r
         where
           further : (getD t (linkAt a k b) 0 ≡ 0) ⊎ Deeper t a n (tree .depth) k b → i < n
@@ -72,19 +72,19 @@ module _ {t u : List ℕ} {a n : ℕ} (tree : Tree t a n) (keeps : Keeps t u a n
 
       go : ((i : ℕ) → i < n → seek t a x f i (b / 2) ≡ suc j → seek u a x (f + e) i (b / 2) ≡ suc j) → seek u a x (suc (f + e)) k b ≡ suc j
       go later =
-          by-cases (ℕ-discrete (number t a k) x)
-          (λ (c : number t a k ≡ x). seek-here u a x (f + e) k b (keeps .numbers k l ∙ c) ∙ sym (seek-here t a x f k b c) ∙ p)
-          (λ (c : ¬ (number t a k ≡ x)). on (getD t (linkAt a k b) 0) refl (sym (seek-other t a x f k b c) ∙ p) c later)
+          by-cases (ℕ-discrete (numberAt t a k) x)
+          (λ (c : numberAt t a k ≡ x). seek-here u a x (f + e) k b (extends .numbers k l ∙ c) ∙ sym (seek-here t a x f k b c) ∙ p)
+          (λ (c : ¬ (numberAt t a k ≡ x)). on (getD t (linkAt a k b) 0) refl (sym (seek-other t a x f k b c) ∙ p) c later)
 
 -- the link at which a search ended is there
 pub link-room : {t : List ℕ} {a n x p : ℕ} → Tree t a n → Missing t a n x p → p < length t
 link-room tree m = omega (arith, tree .within, m .here, m .below, bit (m .bits))
 
 -- a link that stays leads where it did
-deeper-same : {t u : List ℕ} {a n m : ℕ} {depth : ℕ → ℕ} → Keeps t u a n → (deep : ℕ → ℕ) → ((i : ℕ) → i < n → deep i ≡ depth i) → n ≤ m → (k b : ℕ) → k < n
+deeper-same : {t u : List ℕ} {a n m : ℕ} {depth : ℕ → ℕ} → Extends t u a n → (deep : ℕ → ℕ) → ((i : ℕ) → i < n → deep i ≡ depth i) → n ≤ m → (k b : ℕ) → k < n
     → getD u (linkAt a k b) 0 ≡ getD t (linkAt a k b) 0 → (getD t (linkAt a k b) 0 ≡ 0) ⊎ Deeper t a n depth k b → (getD u (linkAt a k b) 0 ≡ 0) ⊎ Deeper u a m deep k b
-deeper-same keeps deep is more k b l e (inl z) = inl (e ∙ z)
-deeper-same keeps deep is more k b l e (inr w) =
+deeper-same extends deep is more k b l e (inl z) = inl (e ∙ z)
+deeper-same extends deep is more k b l e (inr w) =
     inr
     (record {
       to = w .to;
@@ -92,8 +92,8 @@ deeper-same keeps deep is more k b l e (inr w) =
       later = w .later;
       below = omega (arith, w .below);
       down = is (w .to) (w .below) ∙ w .down ∙ ap suc (sym (is k l));
-      alike = rw (is k l, keeps .numbers k l, keeps .numbers (w .to) (w .below)) (w .alike);
-      bit = rw (is k l, keeps .numbers (w .to) (w .below)) (w .bit);
+      same = rw (is k l, extends .numbers k l, extends .numbers (w .to) (w .below)) (w .same);
+      bit = rw (is k l, extends .numbers (w .to) (w .below)) (w .bit);
     })
 
 -- a tree stays where its places do
@@ -105,19 +105,19 @@ tree-same {t} u {a} {n} tree same long =
       depth = tree .depth;
       root = tree .root;
       low = tree .low;
-      links = λ k b l. deeper-same keeps (tree .depth) (λ i c. refl) (omega arith) k b l (same (linkAt a k b) (omega arith) (omega (arith, bit b))) (tree .links k b l);
+      links = λ k b l. deeper-same extends (tree .depth) (λ i c. refl) (omega arith) k b l (same (linkAt a k b) (omega arith) (omega (arith, bit b))) (tree .links k b l);
       found = λ k l.
           let more : n + 0 ≡ n = omega arith in
           rw (number-same k l)
-          (subst (λ g. seek u a (number t a k) g 0 (number t a k) ≡ suc k) more
-          (seek-kept tree keeps (number t a k) 0 n 0 (number t a k) k (omega arith) (tree .found k l)));
+          (subst (λ g. seek u a (numberAt t a k) g 0 (numberAt t a k) ≡ suc k) more
+          (seek-kept tree extends (numberAt t a k) 0 n 0 (numberAt t a k) k (omega arith) (tree .found k l)));
     }
   where
-    number-same : (k : ℕ) → k < n → number u a k ≡ number t a k
+    number-same : (k : ℕ) → k < n → numberAt u a k ≡ numberAt t a k
     number-same k l = same (a + 3 * k) (omega arith) (omega arith)
 
-    keeps : Keeps t u a n
-    keeps = record { numbers = number-same; links = λ k b l _. same (linkAt a k b) (omega arith) (omega (arith, bit b)) }
+    extends : Extends t u a n
+    extends = record { numbers = number-same; links = λ k b l _. same (linkAt a k b) (omega arith) (omega (arith, bit b)) }
 
 -- no number
 pub tree-none : (t : List ℕ) (a : ℕ) → a ≤ length t → Tree t a 0
@@ -143,11 +143,11 @@ module _ {t : List ℕ} {a n x p : ℕ} (tree : Tree t a n) (m : Missing t a n x
   linked : getD u p 0 ≡ n + 1
   linked = w .before p (place .0) ∙ getD-set-same t p (n + 1) 0 (omega (arith, place .0, tree .within))
 
-  numbers : (k : ℕ) → k < n → number u a k ≡ number t a k
+  numbers : (k : ℕ) → k < n → numberAt u a k ≡ numberAt t a k
   numbers k l = front (a + 3 * k) (omega arith) (λ z. omega (arith, z, m .here, bit (m .bits)))
 
-  keeps : Keeps t u a n
-  keeps =
+  extends : Extends t u a n
+  extends =
       record {
         numbers = numbers;
         links = λ k b l nz. front (linkAt a k b) (omega (arith, bit b)) (λ z. nz (ap (λ i. getD t i 0) z ∙ m .zero));
@@ -171,8 +171,8 @@ module _ {t : List ℕ} {a n x p : ℕ} (tree : Tree t a n) (m : Missing t a n x
       by-cases (decLt (tree .depth (m .owner)) 16) (λ (c : tree .depth (m .owner) < 16). c)
       (λ (c : ¬ (tree .depth (m .owner) < 16)).
       let z : tree .depth (m .owner) ≡ 16 = omega (arith, tree .low (m .owner) (m .below)) in
-      let like : Alike 16 (number t a (m .owner)) x = subst (λ d. Alike d (number t a (m .owner)) x) z (m .along tree .1) in
-      absurd (m .none (m .owner) (m .below) (alike-equal (tree .small (m .owner) (m .below)) fits like)))
+      let like : SameBits 16 (numberAt t a (m .owner)) x = subst (λ d. SameBits d (numberAt t a (m .owner)) x) z (m .along tree .1) in
+      absurd (m .none (m .owner) (m .below) (same-bits-equal (tree .small (m .owner) (m .below)) fits like)))
 
   -- the link that leads to x
   link-new : (k b : ℕ) → linkAt a k b ≡ p → Deeper u a (n + 1) depth k b
@@ -186,7 +186,7 @@ module _ {t : List ℕ} {a n x p : ℕ} (tree : Tree t a n) (m : Missing t a n x
         later = omega (arith, own, m .below);
         below = omega arith;
         down = depth-new ∙ ap suc (sym at);
-        alike = rw (at, own, numbers (m .owner) (m .below), w .here) (m .along tree .1);
+        same = rw (at, own, numbers (m .owner) (m .below), w .here) (m .along tree .1);
         bit = rw (at, w .here) (ap (_% 2) (m .along tree .0) ∙ sym same);
       }
 
@@ -195,7 +195,7 @@ module _ {t : List ℕ} {a n x p : ℕ} (tree : Tree t a n) (m : Missing t a n x
       by-cases (decLt k n)
       (λ (c : k < n).
       by-cases (ℕ-discrete (linkAt a k b) p) (λ (z : linkAt a k b ≡ p). inr (link-new k b z))
-      (λ (z : ¬ (linkAt a k b ≡ p)). deeper-same keeps depth depth-old (omega arith) k b c (front (linkAt a k b) (omega (arith, bit b)) z) (tree .links k b c)))
+      (λ (z : ¬ (linkAt a k b ≡ p)). deeper-same extends depth depth-old (omega arith) k b c (front (linkAt a k b) (omega (arith, bit b)) z) (tree .links k b c)))
       (λ (c : ¬ (k < n)). let z : k ≡ n = omega arith in inl (ap (λ i. getD u (linkAt a i b) 0) z ∙ w .links b))
 
   -- a fact of the old numbers and of x
@@ -204,13 +204,13 @@ module _ {t : List ℕ} {a n x p : ℕ} (tree : Tree t a n) (m : Missing t a n x
       by-cases (decLt k n) (λ (c : k < n). old k c)
       (λ (c : ¬ (k < n)). let z : n ≡ k = omega arith in subst P z new)
 
-  found : (k : ℕ) → k < n + 1 → seek u a (number u a k) (n + 1) 0 (number u a k) ≡ suc k
+  found : (k : ℕ) → k < n + 1 → seek u a (numberAt u a k) (n + 1) 0 (numberAt u a k) ≡ suc k
   found k l =
       by-cases (decLt k n)
-      (λ (c : k < n). rw (numbers k c) (seek-kept tree keeps (number t a k) 1 n 0 (number t a k) k (omega arith) (tree .found k c)))
+      (λ (c : k < n). rw (numbers k c) (seek-kept tree extends (numberAt t a k) 1 n 0 (numberAt t a k) k (omega arith) (tree .found k c)))
       (λ (c : ¬ (k < n)).
       let z : k ≡ n = omega arith in
-      rw (z, w .here) (m .new u keeps (linked ∙ omega arith) (w .here)))
+      rw (z, w .here) (m .new u extends (linked ∙ omega arith) (w .here)))
 
   pub entered-new : a + 3 * n + 3 ≤ length t → Entered t a n x n u
   entered-new room =
@@ -219,7 +219,7 @@ module _ {t : List ℕ} {a n x p : ℕ} (tree : Tree t a n) (m : Missing t a n x
         all = rw (eq-eqb n n refl)
             (record {
               within = omega (arith, w .size, length-set t p (n + 1));
-              small = each (λ k. number u a k < 65536) (λ k l. rw (numbers k l) (tree .small k l)) (rw (w .here) fits);
+              small = each (λ k. numberAt u a k < 65536) (λ k l. rw (numbers k l) (tree .small k l)) (rw (w .here) fits);
               depth = depth;
               root = depth-old 0 (omega (arith, m .below)) ∙ tree .root;
               low = each (λ k. depth k ≤ 16) (λ k l. rw (depth-old k l) (tree .low k l)) (rw depth-new owner-low);
@@ -251,8 +251,7 @@ entered-first {t} {a} {n} {x} {u} z fits w room =
             found = λ k l.
                 let q : k ≡ 0 = omega (arith, z) in
                 let one : n + 1 ≡ suc 0 = omega (arith, z) in
-                let here : number u a 0 ≡ x = subst (λ i. number u a i ≡ x) z (w .here) in
-                rw (q, one) (seek-here u a (number u a 0) 0 0 (number u a 0) refl);
+                rw (q, one) (seek-here u a (numberAt u a 0) 0 0 (numberAt u a 0) refl);
           });
       here = w .here;
       old = λ k c. absurd (omega (arith, z));
@@ -260,7 +259,7 @@ entered-first {t} {a} {n} {x} {u} z fits w room =
     }
 
 -- x is one of the numbers
-pub entered-old : {t : List ℕ} {a n x k : ℕ} → Tree t a n → k < n → number t a k ≡ x → Entered t a n x k t
+pub entered-old : {t : List ℕ} {a n x k : ℕ} → Tree t a n → k < n → numberAt t a k ≡ x → Entered t a n x k t
 entered-old {t} {a} {n} {x} {k} tree l e =
     record {
       within = omega arith;
@@ -270,7 +269,7 @@ entered-old {t} {a} {n} {x} {k} tree l e =
       only = record { size = refl; before = λ i c. refl; behind = λ i c. refl };
     }
 
-pub place-at : {t : List ℕ} {a n x k : ℕ} → Tree t a n → k ≤ n → (k < n → number t a k ≡ x) → (k ≡ n → n ≡ 0) → PlaceOf t a n x k
+pub place-at : {t : List ℕ} {a n x k : ℕ} → Tree t a n → k ≤ n → (k < n → numberAt t a k ≡ x) → (k ≡ n → n ≡ 0) → PlaceOf t a n x k
 place-at {t} {a} {n} {x} {k} tree l here end =
     record {
       within = l;

@@ -8,21 +8,21 @@ use mathlib.Core.Logic.{_⊎_, inl, inr}
 use mathlib.Core.Path.{_≡_, refl, sym, ap, subst, _∙_}
 use lib.ListN.{getD}
 use borrow.Author.Tests.{eq-eqb, ne-eqb}
-use Rattle.tree.specs.Tree.{number, linkAt, onward, seek, upper, Alike, Deeper, Tree, Keeps, Missing}
-use Rattle.tree.proofs.Bits.{alike-turned}
+use Rattle.tree.specs.Tree.{numberAt, linkAt, onward, seek, upper, SameBits, Deeper, Tree, Extends, Missing}
+use Rattle.tree.proofs.Bits.{same-bits-turned}
 
 -- one step
 module _ (u : List ℕ) (a x f k b : ℕ) where
-  pub seek-here : number u a k ≡ x → seek u a x (suc f) k b ≡ suc k
+  pub seek-here : numberAt u a k ≡ x → seek u a x (suc f) k b ≡ suc k
   unfolding seek
-  seek-here e = rw (eq-eqb (number u a k) x e) refl
+  seek-here e = rw (eq-eqb (numberAt u a k) x e) refl
 
-  pub seek-other : (number u a k ≡ x → ⊥) → seek u a x (suc f) k b ≡ onward (λ j. seek u a x f j (b / 2)) (getD u (linkAt a k b) 0)
+  pub seek-other : (numberAt u a k ≡ x → ⊥) → seek u a x (suc f) k b ≡ onward (λ j. seek u a x f j (b / 2)) (getD u (linkAt a k b) 0)
   unfolding seek
-  seek-other ne = rw (ne-eqb (number u a k) x ne) refl
+  seek-other ne = rw (ne-eqb (numberAt u a k) x ne) refl
 
-keeps-self : (t : List ℕ) (a n : ℕ) → Keeps t t a n
-keeps-self t a n = record { numbers = λ k l. refl; links = λ k b l ne. refl }
+extends-self : (t : List ℕ) (a n : ℕ) → Extends t t a n
+extends-self t a n = record { numbers = λ k l. refl; links = λ k b l ne. refl }
 
 -- after some steps the search for x is at number k, with the bits b left
 pub record Seeking (t : List ℕ) (a n x k b : ℕ) : Type 0 where
@@ -30,8 +30,8 @@ pub record Seeking (t : List ℕ) (a n x k b : ℕ) : Type 0 where
   pub few : steps ≤ k
   pub bound : k ≤ n
   pub below : k ≡ n → n ≡ 0
-  pub along : (tree : Tree t a n) → (upper (tree .depth k) x ≡ b) × Alike (tree .depth k) (number t a k) x
-  pub same : (u : List ℕ) → Keeps t u a n → (f : ℕ) → seek u a x (steps + f) 0 x ≡ seek u a x f k b
+  pub along : (tree : Tree t a n) → (upper (tree .depth k) x ≡ b) × SameBits (tree .depth k) (numberAt t a k) x
+  pub same : (u : List ℕ) → Extends t u a n → (f : ℕ) → seek u a x (steps + f) 0 x ≡ seek u a x f k b
 
 pub seeking-start : (t : List ℕ) (a n x : ℕ) → Seeking t a n x 0 x
 seeking-start t a n x =
@@ -44,10 +44,10 @@ seeking-start t a n x =
       same = λ u k f. let q : 0 + f ≡ f = omega arith in ap (λ g. seek u a x g 0 x) q;
     }
 
-module _ {t : List ℕ} {a n x k b : ℕ} (o : Seeking t a n x k b) (tree : Tree t a n) (l : k < n) (ne : number t a k ≡ x → ⊥) where
+module _ {t : List ℕ} {a n x k b : ℕ} (o : Seeking t a n x k b) (tree : Tree t a n) (l : k < n) (ne : numberAt t a k ≡ x → ⊥) where
   -- where another search goes from here
-  from-here : (u : List ℕ) → Keeps t u a n → (f : ℕ) → seek u a x (o .steps + suc f) 0 x ≡ onward (λ j. seek u a x f j (b / 2)) (getD u (linkAt a k b) 0)
-  from-here u keeps f = o .same u keeps (suc f) ∙ seek-other u a x f k b (λ e. ne (sym (keeps .numbers k l) ∙ e))
+  from-here : (u : List ℕ) → Extends t u a n → (f : ℕ) → seek u a x (o .steps + suc f) 0 x ≡ onward (λ j. seek u a x f j (b / 2)) (getD u (linkAt a k b) 0)
+  from-here u extends f = o .same u extends (suc f) ∙ seek-other u a x f k b (λ e. ne (sym (extends .numbers k l) ∙ e))
 
   pub link-later : {next : ℕ} → getD t (linkAt a k b) 0 ≡ next → (next ≡ 0 → ⊥) → (suc k < next) × (next ≤ n)
   link-later {next} e nz = go (tree .links k b l)
@@ -58,15 +58,15 @@ module _ {t : List ℕ} {a n x k b : ℕ} (o : Seeking t a n x k b) (tree : Tree
 
   -- the bits that are left, and those in which the next number is like x
   along-next : {next : ℕ} → getD t (linkAt a k b) 0 ≡ next → (next ≡ 0 → ⊥) → (any : Tree t a n)
-      → (upper (any .depth (next - 1)) x ≡ b / 2) × Alike (any .depth (next - 1)) (number t a (next - 1)) x
+      → (upper (any .depth (next - 1)) x ≡ b / 2) × SameBits (any .depth (next - 1)) (numberAt t a (next - 1)) x
   along-next {next} e nz any = go (any .links k b l)
     where
-      go : (getD t (linkAt a k b) 0 ≡ 0) ⊎ Deeper t a n (any .depth) k b → (upper (any .depth (next - 1)) x ≡ b / 2) × Alike (any .depth (next - 1)) (number t a (next - 1)) x
+      go : (getD t (linkAt a k b) 0 ≡ 0) ⊎ Deeper t a n (any .depth) k b → (upper (any .depth (next - 1)) x ≡ b / 2) × SameBits (any .depth (next - 1)) (numberAt t a (next - 1)) x
       go (inl z) = absurd (nz (sym e ∙ z))
       go (inr q) =
           let is : next - 1 ≡ q .to = omega (arith, q .here, e) in
           let h = o .along any in
-          rw (is, q .down) (ap (_/ 2) (h .0), (alike-turned (any .depth k) (number t a k) x (number t a (q .to)) (q .alike) (h .1), q .bit ∙ sym (ap (_% 2) (h .0))))
+          rw (is, q .down) (ap (_/ 2) (h .0), (same-bits-turned (any .depth k) (numberAt t a k) x (numberAt t a (q .to)) (q .same) (h .1), q .bit ∙ sym (ap (_% 2) (h .0))))
 
   pub seeking-next : {next : ℕ} → getD t (linkAt a k b) 0 ≡ next → (next ≡ 0 → ⊥) → Seeking t a n x (next - 1) (b / 2)
   seeking-next {next} e nz =
@@ -77,10 +77,10 @@ module _ {t : List ℕ} {a n x k b : ℕ} (o : Seeking t a n x k b) (tree : Tree
         bound = omega (arith, q .1);
         below = λ z. omega (arith, z, q .0, q .1);
         along = along-next e nz;
-        same = λ u keeps f.
+        same = λ u extends f.
             let more : suc (o .steps) + f ≡ o .steps + suc f = omega arith in
-            let on : getD u (linkAt a k b) 0 ≡ suc (next - 1) = keeps .links k b l (λ z. nz (sym e ∙ z)) ∙ e ∙ omega (arith, q .0) in
-            ap (λ g. seek u a x g 0 x) more ∙ from-here u keeps f ∙ ap (onward (λ j. seek u a x f j (b / 2))) on;
+            let on : getD u (linkAt a k b) 0 ≡ suc (next - 1) = extends .links k b l (λ z. nz (sym e ∙ z)) ∙ e ∙ omega (arith, q .0) in
+            ap (λ g. seek u a x g 0 x) more ∙ from-here u extends f ∙ ap (onward (λ j. seek u a x f j (b / 2))) on;
       }
 
   pub seeking-missing : getD t (linkAt a k b) 0 ≡ 0 → Missing t a n x (linkAt a k b)
@@ -95,19 +95,19 @@ module _ {t : List ℕ} {a n x k b : ℕ} (o : Seeking t a n x k b) (tree : Tree
             let all : n ≡ o .steps + suc (n - 1 - o .steps) = omega (arith, o .few) in
             let is : seek t a x n 0 x ≡ suc j = subst (λ y. seek t a y n 0 y ≡ suc j) e (tree .found j c) in
             let no : seek t a x n 0 x ≡ 0 =
-            ap (λ g. seek t a x g 0 x) all ∙ from-here t (keeps-self t a n) (n - 1 - o .steps) ∙ ap (onward (λ i. seek t a x (n - 1 - o .steps) i (b / 2))) z in
+            ap (λ g. seek t a x g 0 x) all ∙ from-here t (extends-self t a n) (n - 1 - o .steps) ∙ ap (onward (λ i. seek t a x (n - 1 - o .steps) i (b / 2))) z in
             let w : 0 ≡ suc j = sym no ∙ is in
             omega (arith, w);
         along = o .along;
-        new = λ u keeps at here.
+        new = λ u extends at here.
             let f = n - 1 - o .steps in
             let all : n + 1 ≡ o .steps + suc (suc f) = omega (arith, o .few) in
-            ap (λ g. seek u a x g 0 x) all ∙ from-here u keeps (suc f) ∙ ap (onward (λ i. seek u a x (suc f) i (b / 2))) at ∙ seek-here u a x f n (b / 2) here;
+            ap (λ g. seek u a x g 0 x) all ∙ from-here u extends (suc f) ∙ ap (onward (λ i. seek u a x (suc f) i (b / 2))) at ∙ seek-here u a x f n (b / 2) here;
       }
 
 -- two places of one number are the same
-pub same-place : {t : List ℕ} {a n : ℕ} → Tree t a n → (i j : ℕ) → i < n → j < n → number t a i ≡ number t a j → i ≡ j
+pub same-place : {t : List ℕ} {a n : ℕ} → Tree t a n → (i j : ℕ) → i < n → j < n → numberAt t a i ≡ numberAt t a j → i ≡ j
 same-place {t} {a} {n} tree i j c d e =
-    let p : seek t a (number t a j) n 0 (number t a j) ≡ suc i = subst (λ y. seek t a y n 0 y ≡ suc i) e (tree .found i c) in
+    let p : seek t a (numberAt t a j) n 0 (numberAt t a j) ≡ suc i = subst (λ y. seek t a y n 0 y ≡ suc i) e (tree .found i c) in
     let q : suc i ≡ suc j = sym p ∙ tree .found j d in
     omega (arith, q)

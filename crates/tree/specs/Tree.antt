@@ -13,8 +13,8 @@ use Rattle.tree.specs.declared.End.{End}
 use Rattle.tree.specs.declared.End.the-variants.{At, Link}
 
 -- number k
-abbrev pub number : List ℕ → ℕ → ℕ → ℕ
-number t a k = getD t (a + 3 * k) 0
+abbrev pub numberAt : List ℕ → ℕ → ℕ → ℕ
+numberAt t a k = getD t (a + 3 * k) 0
 
 -- where the link of number k for the lowest of the bits b stands
 abbrev pub linkAt : ℕ → ℕ → ℕ → ℕ
@@ -28,7 +28,7 @@ onward go (suc k) = go k
 -- one more than the place of x, by a search of f steps at most from number k on, where b has the bits that are left; 0 where it ends
 unfoldable pub seek : List ℕ → ℕ → ℕ → ℕ → ℕ → ℕ → ℕ
 seek t a x zero k b = 0
-seek t a x (suc f) k b = cond (eqb (number t a k) x) (suc k) (onward (λ j. seek t a x f j (b / 2)) (getD t (linkAt a k b) 0))
+seek t a x (suc f) k b = cond (eqb (numberAt t a k) x) (suc k) (onward (λ j. seek t a x f j (b / 2)) (getD t (linkAt a k b) 0))
 
 -- x without its d lowest bits
 abbrev pub upper : ℕ → ℕ → ℕ
@@ -36,9 +36,9 @@ upper zero x = x
 upper (suc d) x = upper d x / 2
 
 -- x and y have the same d lowest bits
-abbrev pub Alike : ℕ → ℕ → ℕ → Type 0
-Alike zero x y = Unit {0}
-Alike (suc d) x y = Alike d x y × (upper d x % 2 ≡ upper d y % 2)
+abbrev pub SameBits : ℕ → ℕ → ℕ → Type 0
+SameBits zero x y = Unit {0}
+SameBits (suc d) x y = SameBits d x y × (upper d x % 2 ≡ upper d y % 2)
 
 -- the link of number k for the lowest bit of b leads to a later number, which is one deeper, has as many of the lowest bits of number k as that is
 -- deep, and then this bit
@@ -48,23 +48,23 @@ pub record Deeper (t : List ℕ) (a n : ℕ) (depth : ℕ → ℕ) (k b : ℕ) :
   pub later : k < to
   pub below : to < n
   pub down : depth to ≡ suc (depth k)
-  pub alike : Alike (depth k) (number t a k) (number t a to)
-  pub bit : upper (depth k) (number t a to) % 2 ≡ b % 2
+  pub same : SameBits (depth k) (numberAt t a k) (numberAt t a to)
+  pub bit : upper (depth k) (numberAt t a to) % 2 ≡ b % 2
 
 -- n numbers, each of which is found; each link leads nowhere or one deeper, and none of them is deeper than 16, so that no search takes more than
 -- 17 steps
 pub record Tree (t : List ℕ) (a n : ℕ) : Type 0 where
   pub within : a + 3 * n ≤ length t
-  pub small : (k : ℕ) → k < n → number t a k < 65536
+  pub small : (k : ℕ) → k < n → numberAt t a k < 65536
   pub depth : ℕ → ℕ
   pub root : depth 0 ≡ 0
   pub low : (k : ℕ) → k < n → depth k ≤ 16
   pub links : (k b : ℕ) → k < n → (getD t (linkAt a k b) 0 ≡ 0) ⊎ Deeper t a n depth k b
-  pub found : (k : ℕ) → k < n → seek t a (number t a k) n 0 (number t a k) ≡ suc k
+  pub found : (k : ℕ) → k < n → seek t a (numberAt t a k) n 0 (numberAt t a k) ≡ suc k
 
 -- the numbers and the links of n numbers are as in t, but for links that lead nowhere there
-pub record Keeps (t u : List ℕ) (a n : ℕ) : Type 0 where
-  pub numbers : (k : ℕ) → k < n → number u a k ≡ number t a k
+pub record Extends (t u : List ℕ) (a n : ℕ) : Type 0 where
+  pub numbers : (k : ℕ) → k < n → numberAt u a k ≡ numberAt t a k
   pub links : (k b : ℕ) → k < n → (getD t (linkAt a k b) 0 ≡ 0 → ⊥) → getD u (linkAt a k b) 0 ≡ getD t (linkAt a k b) 0
 
 -- x is none of the n numbers; the search for it ends at the link at p, and finds it once that leads to it as number n
@@ -74,25 +74,25 @@ pub record Missing (t : List ℕ) (a n x p : ℕ) : Type 0 where
   pub below : owner < n
   pub here : p ≡ linkAt a owner bits
   pub zero : getD t p 0 ≡ 0
-  pub none : (k : ℕ) → k < n → number t a k ≡ x → ⊥
-  pub along : (tree : Tree t a n) → (upper (tree .depth owner) x ≡ bits) × Alike (tree .depth owner) (number t a owner) x
-  pub new : (u : List ℕ) → Keeps t u a n → getD u p 0 ≡ suc n → number u a n ≡ x → seek u a x (n + 1) 0 x ≡ suc n
+  pub none : (k : ℕ) → k < n → numberAt t a k ≡ x → ⊥
+  pub along : (tree : Tree t a n) → (upper (tree .depth owner) x ≡ bits) × SameBits (tree .depth owner) (numberAt t a owner) x
+  pub new : (u : List ℕ) → Extends t u a n → getD u p 0 ≡ suc n → numberAt u a n ≡ x → seek u a x (n + 1) 0 x ≡ suc n
 
 -- where the search for x ends: at a number, or at n where there are none; or at a link
 abbrev pub EndOf : List ℕ → ℕ → ℕ → ℕ → End → Type 0
-EndOf t a n x (At k) = (k ≤ n) × (k < n → number t a k ≡ x) × (k ≡ n → n ≡ 0)
+EndOf t a n x (At k) = (k ≤ n) × (k < n → numberAt t a k ≡ x) × (k ≡ n → n ≡ 0)
 EndOf t a n x (Link p) = Missing t a n x p
 
 -- r is the place of x among the n numbers, or n where x is none of them
 pub record PlaceOf (t : List ℕ) (a n x r : ℕ) : Type 0 where
   pub within : r ≤ n
-  pub here : r < n → number t a r ≡ x
-  pub only : (k : ℕ) → k < n → number t a k ≡ x → k ≡ r
+  pub here : r < n → numberAt t a r ≡ x
+  pub only : (k : ℕ) → k < n → numberAt t a k ≡ x → k ≡ r
 
 -- x is number n of u, with links that lead nowhere, and all else is as in t
 pub record Node (t : List ℕ) (a n x : ℕ) (u : List ℕ) : Type 0 where
   pub size : length u ≡ length t
-  pub here : number u a n ≡ x
+  pub here : numberAt u a n ≡ x
   pub links : (b : ℕ) → getD u (linkAt a n b) 0 ≡ 0
   pub before : (i : ℕ) → i < a + 3 * n → getD u i 0 ≡ getD t i 0
   pub behind : (i : ℕ) → a + 3 * n + 3 ≤ i → getD u i 0 ≡ getD t i 0
@@ -101,6 +101,6 @@ pub record Node (t : List ℕ) (a n x : ℕ) (u : List ℕ) : Type 0 where
 pub record Entered (t : List ℕ) (a n x r : ℕ) (t′ : List ℕ) : Type 0 where
   pub within : r ≤ n
   pub all : Tree t′ a (grown n r)
-  pub here : number t′ a r ≡ x
-  pub old : (k : ℕ) → k < n → number t′ a k ≡ number t a k
+  pub here : numberAt t′ a r ≡ x
+  pub old : (k : ℕ) → k < n → numberAt t′ a k ≡ numberAt t a k
   pub only : Within a (a + 3 * n + 3) t t′
