@@ -1,4 +1,5 @@
 pub mod ScanLaws
+pub mod Runs
 pub mod Flat
 pub mod PartLaws
 pub mod Walks

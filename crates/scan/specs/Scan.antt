@@ -34,6 +34,20 @@ recordLength (OfMember w) = 3 + w
 recordLength (OfRecord before names behind) = 1
 recordLength Unknown = 1
 
+-- the form of a size-discriminated union: a scan for field references passes over it whole
+unfoldable pub isSizeUnion : Form → Bool
+isSizeUnion (OfExpr f) = false
+isSizeUnion (OfType Primitive) = false
+isSizeUnion (OfType TypeRef) = false
+isSizeUnion (OfType Struct) = false
+isSizeUnion (OfType Union) = false
+isSizeUnion (OfType Enum) = false
+isSizeUnion (OfType Array) = false
+isSizeUnion (OfType SizeUnion) = true
+isSizeUnion (OfMember w) = false
+isSizeUnion (OfRecord before names behind) = false
+isSizeUnion Unknown = false
+
 -- the name of the record at a position
 abbrev pub nameAt : List ℕ → ℕ → ℕ
 nameAt s at = little s (at + 1) 2

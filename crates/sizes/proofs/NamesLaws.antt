@@ -11,11 +11,11 @@ use Rattle.bundle.specs.declared.Form.{Form}
 use Rattle.bundle.specs.declared.Form.the-variants.{OfExpr, OfType, OfMember, OfRecord, Unknown}
 use Rattle.bundle.specs.View.{formMeant}
 use Rattle.bundle.proofs.Form.{the-type}
+use Rattle.scan.specs.Scan.{formAt}
 use Rattle.sizes.specs.declared.Found.the-variants.{At, Nothing}
 use Rattle.sizes.specs.declared.Names.the-variants.{Of, No}
-use Rattle.sizes.specs.Scan.{also, formAt, recordEnd, namesIn, namesOf, referencesFrom, foundOf}
-use Rattle.sizes.proofs.ScanLaws.{step, nothing-left}
-use Rattle.sizes.proofs.Flat.{record-forward}
+use Rattle.sizes.specs.Scan.{also, recordEnd, namesIn, namesOf, referencesFrom, foundOf}
+use Rattle.sizes.proofs.ScanLaws.{step, nothing-left, record-forward}
 
 -- a form that is no expression's, by the variant's number
 pub no-names : (f : Form) → OneOf (1 ∷ 2 ∷ 3 ∷ 4 ∷ []) (tagOf the-type f) → namesOf (namesIn (formMeant f)) ≡ No

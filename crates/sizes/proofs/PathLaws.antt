@@ -6,16 +6,17 @@ use mathlib.Core.Option.{Option, none, some}
 use mathlib.Core.Path.{_≡_, refl, sym, ap, ap₂, _∙_}
 use mathlib.Core.List.{List, _∷_}
 use lib.ListN.{length}
-use Rattle.meaning.specs.Kinds.{Form, OfExpr, OfType, OfMember, OfRecord, Unknown, Literal, FieldRef, Sizeof, Alignof, Binary, Unary}
+use Rattle.meaning.specs.Kinds.{Form}
 use Rattle.meaning.specs.Lookup.{Target, parseFieldReference}
 use Rattle.meaning.specs.Reader.{little, namesFrom}
 use Rattle.meaning.proofs.KindTable.{side}
+use Rattle.scan.specs.Scan.{formAt}
 use Rattle.sizes.specs.declared.Found.the-variants.{At}
 use Rattle.sizes.specs.declared.Names.the-variants.{Of, No}
 use Rattle.sizes.specs.Paths.{Fit}
-use Rattle.sizes.specs.Scan.{also, exprEnd, formAt, recordEnd, namesIn, namesOf, namesAt, pathAt, referencesFrom, foundOf, Fits}
-use Rattle.sizes.proofs.ScanLaws.{step, nothing-left}
-use Rattle.sizes.proofs.Flat.{length-names, path-is, record-forward}
+use Rattle.sizes.specs.Scan.{also, recordEnd, namesIn, namesOf, namesAt, pathAt, referencesFrom, foundOf, Fits}
+use Rattle.sizes.proofs.ScanLaws.{step, nothing-left, record-forward, names-end}
+use Rattle.sizes.proofs.Flat.{length-names, path-is}
 
 module _ (s : List ℕ) where
   -- how many names the reference at `at` has
@@ -71,20 +72,6 @@ module _ (s : List ℕ) (end : ℕ) where
     pub from : at ≤ p
     pub before : p < end
 
-  -- where a field reference ends
-  names-end : (f : Form) (at n : ℕ) → namesIn f ≡ some n → recordEnd f s at ≡ at + 1 + 2 * n
-  unfolding namesIn recordEnd exprEnd
-  names-end (OfExpr (FieldRef k)) at n e = let p : k ≡ n = cc in rw p
-  names-end (OfExpr (Literal w)) at n e = let z : _≡_ {A = ℕ} 0 1 = cc in absurd (omega arith)
-  names-end (OfExpr Sizeof) at n e = let z : _≡_ {A = ℕ} 0 1 = cc in absurd (omega arith)
-  names-end (OfExpr Alignof) at n e = let z : _≡_ {A = ℕ} 0 1 = cc in absurd (omega arith)
-  names-end (OfExpr Binary) at n e = let z : _≡_ {A = ℕ} 0 1 = cc in absurd (omega arith)
-  names-end (OfExpr Unary) at n e = let z : _≡_ {A = ℕ} 0 1 = cc in absurd (omega arith)
-  names-end (OfType x) at n e = let z : _≡_ {A = ℕ} 0 1 = cc in absurd (omega arith)
-  names-end (OfMember w) at n e = let z : _≡_ {A = ℕ} 0 1 = cc in absurd (omega arith)
-  names-end (OfRecord x y z) at n e = let z : _≡_ {A = ℕ} 0 1 = cc in absurd (omega arith)
-  names-end Unknown at n e = let z : _≡_ {A = ℕ} 0 1 = cc in absurd (omega arith)
-
   module _ (p : ℕ) where
     -- one record at `at`, by what is found behind it
     split-step : (at : ℕ) → at < end → At p ≡ foundOf (referencesFrom s at end)
@@ -97,7 +84,7 @@ module _ (s : List ℕ) (end : ℕ) where
             record { rest = q ∙ g .rest; from = omega (arith, g .from, record-forward s at); before = g .before }
         go (some k) n q =
             let i : p ≡ at = at-same (e ∙ ap foundOf q) in
-            let b : recordEnd (formAt s at) s at ≡ p + 1 + 2 * length (pathAt s p) = names-end (formAt s at) at k n ∙ rw (i, path-is s at k n .1) in
+            let b : recordEnd (formAt s at) s at ≡ p + 1 + 2 * length (pathAt s p) = names-end s (formAt s at) at k n ∙ rw (i, path-is s at k n .1) in
             record { rest = q ∙ ap₂ (λ x y. x ∷ referencesFrom s y end) (sym i) b; from = omega arith; before = omega arith }
           where
             at-same : {x y : ℕ} → At x ≡ At y → x ≡ y

@@ -15,6 +15,7 @@ use Rattle.bundle.specs.View.{stepOf, Reads}
 use Rattle.bundle.specs.Definitions.{typeAt}
 use Rattle.bundle.specs.Expressions.{exprAt}
 use Rattle.bundle.proofs.Trees.{refused-no}
+use Rattle.scan.proofs.Flat.{type-forward}
 use Rattle.sizes.specs.declared.Found.the-variants.{At, Nothing}
 use Rattle.sizes.specs.Scan.{pathAt, referencesFrom, pathsFrom, foundOf, Fits}
 use Rattle.sizes.proofs.Flat.{expr-flat, type-flat, whole, whole-fits, whole-wide}
@@ -44,13 +45,13 @@ constant-empty (unary k e) = constant-empty e
 -- an expression that ended at m
 module _ (d at m : ℕ) (s : List ℕ) (e : Next m ≡ stepOf (readExpr d s at)) where
   pub expr-bound : m ≤ length s
-  expr-bound = expr-flat s d at m e .1 .bound
+  expr-bound = expr-flat s d at m e .bound
 
   pub expr-references : pathsFrom s at m ≡ collectFieldReferencesRecursive (exprAt d s at)
-  expr-references = whole s (expr-flat s d at m e .1)
+  expr-references = whole s (expr-flat s d at m e)
 
   pub expr-fits : Fits s (referencesFrom s at m)
-  expr-fits = whole-fits s (expr-flat s d at m e .1)
+  expr-fits = whole-fits s (expr-flat s d at m e)
 
   by-first : isConstant (exprAt d s at) ≡ isEmpty (referencesFrom s at m)
   by-first = constant-empty (exprAt d s at) ∙ ap isEmpty (sym expr-references) ∙ mapped (referencesFrom s at m)
@@ -76,14 +77,14 @@ module _ (d at m : ℕ) (s : List ℕ) (e : Next m ≡ stepOf (readExpr d s at))
 -- a type that ended at m
 module _ (d at m : ℕ) (s : List ℕ) (l : d ≤ depthLimit) (e : Next m ≡ stepOf (readTy d s at)) where
   pub type-bound : m ≤ length s
-  type-bound = type-flat s d l at m e .1 .bound
+  type-bound = type-flat s d l at m e .bound
 
   pub type-references : pathsFrom s at m ≡ collectFieldReferencesInTypeKind (typeAt d s at)
-  type-references = whole s (type-flat s d l at m e .1)
+  type-references = whole s (type-flat s d l at m e)
 
   pub type-fits : Fits s (referencesFrom s at m)
-  type-fits = whole-fits s (type-flat s d l at m e .1)
+  type-fits = whole-fits s (type-flat s d l at m e)
 
   -- behind its first byte there are two bytes for each of them
   pub type-wide : at + 1 + 2 * length (referencesFrom s at m) ≤ m
-  type-wide = omega (arith, type-flat s d l at m e .0, whole-wide s (type-flat s d l at m e .1))
+  type-wide = omega (arith, type-forward s d at m e, whole-wide s (type-flat s d l at m e))

@@ -4,49 +4,26 @@ use mathlib.Core.Bool.{cond}
 use mathlib.Core.Option.{Option, none, some}
 use mathlib.Core.List.{List, [], _∷_, map}
 use lib.Dec.{ltb}
-use lib.ListN.{length, getD}
-use Rattle.meaning.specs.Kinds.{ExprForm, Literal, FieldRef, Sizeof, Alignof, Binary, Unary}
-use Rattle.meaning.specs.Kinds.{TypeForm, Primitive, TypeRef, Struct, Union, Enum, Array, SizeUnion}
-use Rattle.meaning.specs.Kinds.{Form, OfExpr, OfType, OfMember, OfRecord, Unknown, formOf}
+use lib.ListN.{length}
+use Rattle.meaning.specs.Kinds.{Literal, FieldRef, Sizeof, Alignof, Binary, Unary}
+use Rattle.meaning.specs.Kinds.{Form, OfExpr, OfType, OfMember, OfRecord, Unknown}
 use Rattle.meaning.specs.Limits.{depthLimit}
 use Rattle.meaning.specs.Reader.{Read, ok, refused, namesFrom}
 use Rattle.meaning.specs.ReadType.{readTy}
+use Rattle.scan.specs.Scan.{recordLength, isSizeUnion, formAt}
 use Rattle.sizes.specs.declared.Found.{Found}
 use Rattle.sizes.specs.declared.Found.the-variants.{At, Nothing}
 use Rattle.sizes.specs.declared.Names.{Names}
 use Rattle.sizes.specs.declared.Names.the-variants.{Of, No}
-
--- where the expression's record at a position ends
-unfoldable pub exprEnd : ExprForm → ℕ → ℕ
-exprEnd (Literal w) at = at + 1 + w
-exprEnd (FieldRef n) at = at + 1 + 2 * n
-exprEnd Sizeof at = at + 3
-exprEnd Alignof at = at + 3
-exprEnd Binary at = at + 1
-exprEnd Unary at = at + 1
 
 -- where reading ended, or z where it was refused
 abbrev pub endOr : {A : Type 0} → ℕ → Read A → ℕ
 endOr z (ok a m) = m
 endOr z (refused k) = z
 
--- where the type's record at a position ends; a size-discriminated union is passed over whole
-unfoldable pub typeEnd : TypeForm → List ℕ → ℕ → ℕ
-typeEnd Primitive s at = at + 1
-typeEnd TypeRef s at = at + 3
-typeEnd Struct s at = at + 12
-typeEnd Union s at = at + 12
-typeEnd Enum s at = at + 12
-typeEnd Array s at = at + 11
-typeEnd SizeUnion s at = endOr (at + 1) (readTy depthLimit s at)
-
--- where the record at a position, of this form, ends
+-- where the record at a position, of this form, ends; a size-discriminated union is passed over whole
 unfoldable pub recordEnd : Form → List ℕ → ℕ → ℕ
-recordEnd (OfExpr f) s at = exprEnd f at
-recordEnd (OfType f) s at = typeEnd f s at
-recordEnd (OfMember w) s at = at + 3 + w
-recordEnd (OfRecord before names behind) s at = at + 1
-recordEnd Unknown s at = at + 1
+recordEnd f s at = cond (isSizeUnion f) (endOr (at + 1) (readTy depthLimit s at)) (at + recordLength f)
 
 -- the count of names, where the form is a field reference's
 unfoldable pub namesIn : Form → Option ℕ
@@ -65,10 +42,6 @@ namesIn Unknown = none
 abbrev pub namesAt : List ℕ → ℕ → Option ℕ → List ℕ
 namesAt s at none = []
 namesAt s at (some n) = namesFrom s at n
-
--- the form of the record at a position
-abbrev pub formAt : List ℕ → ℕ → Form
-formAt s at = formOf (getD s at 0)
 
 -- the path of the field reference at a position, as it is written
 unfoldable pub pathAt : List ℕ → ℕ → List ℕ

@@ -5,9 +5,9 @@ use bundle::Form;
 use bundle::Step;
 use bundle::TypeForm;
 ghost use mathlib.Core.Path.{_≡_};
-ghost use Prim.Native.Nat.{_≤_, _<_};
+ghost use Prim.Native.Nat.{_+_, _≤_, _<_};
 ghost use lib.ListN.{length};
-ghost use Rattle.meaning.specs.Kinds.{OfType, Primitive, formOf};
+ghost use Rattle.meaning.specs.Kinds.{OfExpr, OfType, Primitive, formOf};
 ghost use Rattle.meaning.specs.Limits.{sizeLimit};
 ghost use Rattle.meaning.specs.Lists.{all};
 ghost use Rattle.meaning.specs.Lookup.{listOf, asPrimitive, parseFieldReference};
@@ -19,8 +19,9 @@ ghost use Rattle.bundle.specs.declared.Step.the-variants.{Next};
 ghost use Rattle.bundle.specs.View.{exprFormMeant, typeFormMeant, formMeant, stepOf, Reads};
 ghost use Rattle.bundle.specs.Definitions.{typeAt, membersAt};
 ghost use Rattle.bundle.specs.Expressions.{exprAt};
+ghost use Rattle.scan.specs.Scan.{recordLength};
 ghost use Rattle.sizes.specs.Paths.{Fit, targetMeant, sizeShown};
-ghost use Rattle.sizes.specs.Scan.{exprEnd, typeEnd, recordEnd, namesIn, namesOf, pathAt, referencesFrom, foundOf};
+ghost use Rattle.sizes.specs.Scan.{recordEnd, namesIn, namesOf, pathAt, referencesFrom, foundOf};
 
 // The position of a field reference.
 pub enum Found {
@@ -31,7 +32,7 @@ pub enum Found {
 // Where the expression's record at `at` ends.
 fn expr_end(at: usize, e: ExprForm) -> usize
     requires { ⌜ at ≤ sizeLimit ⌝ }
-    ensures { λ r. ⌜ r ≡ exprEnd (exprFormMeant e) at ⌝ }
+    ensures { λ r. ⌜ r ≡ at + recordLength (OfExpr (exprFormMeant e)) ⌝ }
 {
     match e {
         ExprForm::Literal(w) => at + 1 + (w as usize),
@@ -46,7 +47,7 @@ fn expr_end(at: usize, e: ExprForm) -> usize
 // Where the type's record at `at` ends; a size-discriminated union is passed over whole.
 fn type_end(s: &[u8], at: usize, t: TypeForm) -> usize
     requires { ⌜ at ≤ sizeLimit ⌝ }
-    ensures { λ r. ⌜ r ≡ typeEnd (typeFormMeant t) (now (s .entry)) at ⌝ }
+    ensures { λ r. ⌜ r ≡ recordEnd (OfType (typeFormMeant t)) (now (s .entry)) at ⌝ }
 {
     match t {
         TypeForm::Primitive => at + 1,

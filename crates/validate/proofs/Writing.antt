@@ -21,7 +21,8 @@ use Rattle.meaning.proofs.Lists.{flatMap-append}
 use Rattle.meaning.proofs.ExprSpans.{all-at}
 use Rattle.names.proofs.Items.{bytes-append}
 use Rattle.sizes.specs.Paths.{Fit}
-use Rattle.sizes.specs.Scan.{formAt, namesIn, namesAt, pathAt, referencesFrom, pathsFrom, Fits}
+use Rattle.scan.specs.Scan.{formAt}
+use Rattle.sizes.specs.Scan.{namesIn, namesAt, pathAt, referencesFrom, pathsFrom, Fits}
 use Rattle.sizes.proofs.PathLaws.{path-names}
 use Rattle.violation.specs.declared.Path.{Path}
 use Rattle.violation.specs.declared.Record.{Record}

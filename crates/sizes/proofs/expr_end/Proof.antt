@@ -1,9 +1,10 @@
 -- `sizes::expr_end` meets its contract: each form has its own length.
+use native.Mathlib.Omega.{arith}
 use borrow.Author.Needs.{needs}
 use Rattle.sizes.proofs.expr_end.Statement.{statement}
 use Rattle.sizes.proofs.expr_end.Tie as tie
 use Rattle.bundle.specs.View.{exprFormMeant}
-use Rattle.sizes.specs.Scan.{exprEnd}
+use Rattle.scan.specs.Scan.{recordLength}
 
 enum-known-e : tie.Need-enum-known-e
 enum-known-e c = search needs
@@ -57,27 +58,27 @@ add-result-8 : tie.Need-add-result-8
 add-result-8 c = search needs
 
 returns : tie.Need-returns
-unfolding exprFormMeant exprEnd
-returns c = rw (c .before .e .given .1)
+unfolding exprFormMeant recordLength
+returns c = rw (c .before .e .given .1) (omega arith)
 
 returns-2 : tie.Need-returns-2
-unfolding exprFormMeant exprEnd
-returns-2 c = rw (c .before .e2 .given .1)
+unfolding exprFormMeant recordLength
+returns-2 c = rw (c .before .e2 .given .1) (omega arith)
 
 returns-3 : tie.Need-returns-3
-unfolding exprFormMeant exprEnd
+unfolding exprFormMeant recordLength
 returns-3 c = rw (c .enum-told .given .1)
 
 returns-4 : tie.Need-returns-4
-unfolding exprFormMeant exprEnd
+unfolding exprFormMeant recordLength
 returns-4 c = rw (c .enum-told2 .given .1)
 
 returns-5 : tie.Need-returns-5
-unfolding exprFormMeant exprEnd
+unfolding exprFormMeant recordLength
 returns-5 c = rw (c .enum-told3 .given .1)
 
 returns-6 : tie.Need-returns-6
-unfolding exprFormMeant exprEnd
+unfolding exprFormMeant recordLength
 returns-6 c = rw (c .enum-told4 .given .1)
 
 pub expr-end-spec : {M : Type 1} → statement M

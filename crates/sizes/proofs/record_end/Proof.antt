@@ -1,8 +1,10 @@
 -- `sizes::record_end` meets its contract: each form has its own length.
+use native.Mathlib.Omega.{arith}
 use borrow.Author.Needs.{needs}
 use Rattle.sizes.proofs.record_end.Statement.{statement}
 use Rattle.sizes.proofs.record_end.Tie as tie
 use Rattle.bundle.specs.View.{formMeant}
+use Rattle.scan.specs.Scan.{recordLength, isSizeUnion}
 use Rattle.sizes.specs.Scan.{recordEnd}
 
 enum-known-form : tie.Need-enum-known-form
@@ -42,23 +44,23 @@ add-result-4 : tie.Need-add-result-4
 add-result-4 c = search needs
 
 returns : tie.Need-returns
-unfolding formMeant recordEnd
+unfolding formMeant recordEnd isSizeUnion
 returns c = rw (c .before .before .form .given .1) (c .expr-end .ensures)
 
 returns-2 : tie.Need-returns-2
-unfolding formMeant recordEnd
+unfolding formMeant
 returns-2 c = rw (c .before .before .form2 .given .1) (c .type-end .ensures)
 
 returns-3 : tie.Need-returns-3
-unfolding formMeant recordEnd
-returns-3 c = rw (c .before .form3 .given .1)
+unfolding formMeant recordEnd recordLength isSizeUnion
+returns-3 c = rw (c .before .form3 .given .1) (omega arith)
 
 returns-4 : tie.Need-returns-4
-unfolding formMeant recordEnd
+unfolding formMeant recordEnd recordLength isSizeUnion
 returns-4 c = rw (c .enum-told .given .1)
 
 returns-5 : tie.Need-returns-5
-unfolding formMeant recordEnd
+unfolding formMeant recordEnd recordLength isSizeUnion
 returns-5 c = rw (c .enum-told2 .given .1)
 
 pub record-end-spec : {M : Type 1} → statement M
