@@ -6,7 +6,7 @@ use mathlib.Core.Option.{none}
 use mathlib.Core.Path.{_≡_, refl, ap, _∙_}
 use mathlib.Core.List.{List}
 use lib.Dec.{eqb}
-use lib.ListN.{length, getD}
+use lib.ListN.{getD}
 use Rattle.meaning.specs.Lists.{lastIndex, holds}
 use Rattle.meaning.specs.Lookup.{asStruct, definitionOf, findType}
 use Rattle.meaning.specs.Sizes.{isEnumWithConstantSizeVariants}
@@ -77,6 +77,3 @@ module _ {s : List ℕ} {n : ℕ} {places : List ℕ} (t : Table s n places) (e 
 
   pub constant-noted : ConstantsNoted s places n → i < n → eqb (getD places (constantsAt + i) 0) 1 ≡ holds isEnumWithConstantSizeVariants (findType (bundleOf s) e)
   constant-noted o l = rw (found-type t i e q l, o .each i l) (mark-is (isEnumWithConstantSizeVariants (typeAt 24 s (getD places i 0))))
-
-  pub constant-there : ConstantsNoted s places n → i < n → constantsAt + i < length places
-  constant-there o l = omega (arith, o .size, t .count, t .placed .room)

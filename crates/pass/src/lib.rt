@@ -10,9 +10,38 @@ ghost use Rattle.meaning.specs.Violations.{violations};
 ghost use Rattle.bundle.specs.Definitions.{bundleOf};
 ghost use Rattle.bundle.specs.Opened.{LayoutOf};
 ghost use Rattle.sizes.specs.Tests.{Acyclic, Kept};
+ghost use Rattle.fields.specs.Shapes.{StructAt};
 ghost use Rattle.notes.specs.Notes.{Noted};
 ghost use Rattle.checks.specs.Checks.{EdgesPrepared};
-ghost use Rattle.validate.specs.Validating.{Wrote, Room, violationsAt};
+ghost use Rattle.validate.specs.Validating.{Among, Wrote, Room, violationsOf, violationsAt};
+
+// Writes the violations of a struct, which needs no more of the workspace than the list.
+fn validate_struct(
+    s: &[u8],
+    places: &[u16],
+    layout: Layout,
+    subject: Subject,
+    count: usize,
+    work: &mut [u16],
+    out: &mut [u8],
+    position: Position,
+) -> Position
+    requires { ⌜ LayoutOf (now s) layout (now places) × Among (now s) subject × Noted (now s) (now places) (layout .definitions) ⌝ }
+    requires { ⌜ (7 * layout .edges + 5 ≤ length (now work)) × StructAt 24 (now s) (subject .at) count × Room position (violationsOf (now s) subject) ⌝ }
+    ensures { λ r. ⌜ Wrote (violationsOf (now (s .entry)) subject) (now (out .entry)) position (now (out .exit)) r ⌝ }
+{
+    let list = 6 * layout.edges + 1;
+    validators::validate_struct_field_constraints(
+        s,
+        places,
+        layout,
+        subject,
+        count,
+        &mut work[list..],
+        out,
+        position,
+    )
+}
 
 // Writes the violations of definition `i`: an enum, array or struct goes to its validator, other kinds to none.
 fn validate_type(
@@ -40,19 +69,7 @@ fn validate_type(
     };
     let shape = fields::shape_at(s, place.at, bundle::DEPTH_LIMIT);
     match shape {
-        Shape::Struct(n) => {
-            let list = 6 * layout.edges + 1;
-            validators::validate_struct_field_constraints(
-                s,
-                places,
-                layout,
-                subject,
-                n,
-                &mut work[list..],
-                out,
-                position,
-            )
-        }
+        Shape::Struct(n) => validate_struct(s, places, layout, subject, n, work, out, position),
         Shape::Enum => validators::validate_enum_tag_constraints(
             s,
             places,

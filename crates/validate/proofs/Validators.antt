@@ -1,7 +1,7 @@
 -- The validators of enums, arrays and structs, and of all definitions.
 use Prim.Native.Nat.{ℕ, suc, _+_, _-_, _≤_, _<_}
 use native.Mathlib.Omega.{arith}
-use mathlib.Core.Bool.{true, false}
+use mathlib.Core.Bool.{Bool, true, false}
 use mathlib.Core.Option.{Option}
 use mathlib.Core.Path.{_≡_, refl, sym, ap, ap₂, subst, _∙_}
 use mathlib.Core.List.{List, [], _++_, map}
@@ -10,19 +10,20 @@ use Rattle.names.specs.Names.{place}
 use Rattle.names.proofs.Place.{has-getD}
 use Rattle.meaning.specs.Lists.{flatMap, filterMap, enumerate, push}
 use Rattle.meaning.specs.Lookup.{listOf}
+use Rattle.meaning.specs.References.{collectFieldReferencesRecursive}
 use Rattle.meaning.specs.ReadExpr.{readExpr}
 use Rattle.meaning.specs.ReadType.{readTy}
 use Rattle.meaning.specs.Tree.{Ty, primitive, typeRef, struct, union, enum, array, sizeUnion, member}
 use Rattle.meaning.specs.Violations.{Violation, validateType, validateEnumTagConstraints, validateArraySizeConstraints, validateStructFieldConstraints, checkArrayElementTypeSize, checkFieldLayoutDependency, violations}
-use Rattle.bundle.specs.declared.Step.the-variants.{Next, Refused}
-use Rattle.bundle.specs.View.{stepOf, Reads}
+use Rattle.bundle.specs.View.{Reads}
 use Rattle.bundle.specs.Definitions.{typeAt, membersAt, bundleOf, definitionAt, Table}
 use Rattle.bundle.proofs.LookupLaws.{from-place, placed-at, placed-name}
-use Rattle.bundle.proofs.Trees.{refused-no, ended-reads}
-use Rattle.sizes.specs.Scan.{pathsFrom}
+use Rattle.bundle.proofs.Trees.{ended-reads}
+use Rattle.bundle.specs.Expressions.{exprAt}
+use Rattle.sizes.specs.Scan.{pathsFrom, referencesFrom, Fits}
 use Rattle.sizes.specs.Tests.{Kept}
 use Rattle.bundle.proofs.Parts.{members-none}
-use Rattle.sizes.proofs.ReferenceLaws.{expr-references}
+use Rattle.sizes.proofs.ReferenceLaws.{expr-references, expr-bound, expr-fits}
 use Rattle.fields.specs.declared.Field.{Field}
 use Rattle.fields.specs.declared.Place.{Place}
 use Rattle.fields.specs.declared.Shape.{Shape}
@@ -31,40 +32,43 @@ use Rattle.fields.specs.Shapes.{StructAt, EnumAt, ArrayAt, isPlain, ShapeOf, Fi
 use Rattle.fields.proofs.Walking.{Passing, passing-next, passing-tree}
 use Rattle.validate.specs.declared.Position.{Position}
 use Rattle.validate.specs.declared.Subject.{Subject}
-use Rattle.validate.specs.Validating.{Among, Wrote, Room, checkReference, violationsOf, violationsAt}
+use Rattle.validate.specs.declared.References.{References}
+use Rattle.validate.specs.Validating.{Among, Wrote, Room, ReferencesAt, checkReference, foundIn, violationsOf, violationsAt}
 use Rattle.validate.proofs.Writing.{wrote-none, Going, going-start, going-room, going-next, going-end, push-append}
 
--- an expression that was read is not refused
-pub expr-no : (at k : ℕ) (s : List ℕ) → Reads (readExpr 23 s at) → Refused k ≡ stepOf (readExpr 23 s at) → ⊥
-expr-no at k s r e = refused-no (readExpr 23 s at) k r (sym e)
+-- what is asked of the references of an expression that was read
+pub references-inside : {s : List ℕ} {at : ℕ} {tag : Bool} {r : References} → ReferencesAt s at tag r → (r .end ≤ length s) × Fits s (referencesFrom s (r .at) (r .end))
+references-inside {s} {at} {tag} {r} g =
+    (expr-bound 23 at (r .end) s (g .ends), subst (λ k. Fits s (referencesFrom s k (r .end))) (sym (g .starts)) (expr-fits 23 at (r .end) s (g .ends)))
 
--- an enum, whose tag ended at `end`
-module _ (s : List ℕ) (d : Subject) (g : EnumAt 24 s (d .at)) (end : ℕ) (e : Next end ≡ stepOf (readExpr 23 s (d .at + 12))) where
-  pub enum-violations : violationsOf s d ≡ filterMap (checkReference true (bundleOf s) (d .number) (d .name)) (pathsFrom s (d .at + 12) end)
-  unfolding validateEnumTagConstraints
-  enum-violations =
-      ap (validateType (bundleOf s) (d .number) (d .name)) (g .tree)
-      ∙ ap (filterMap (checkReference true (bundleOf s) (d .number) (d .name))) (sym (expr-references 23 (d .at + 12) end s e))
+-- what is found by them, from the tree
+references-found : {s : List ℕ} {at : ℕ} {tag : Bool} {r : References} (d : Subject) → ReferencesAt s at tag r
+    → filterMap (checkReference tag (bundleOf s) (d .number) (d .name)) (collectFieldReferencesRecursive (exprAt 23 s at)) ≡ foundIn s d r
+references-found {s} {at} {tag} {r} d g =
+    ap₂ (λ t paths. filterMap (checkReference t (bundleOf s) (d .number) (d .name)) paths) (sym (g .which))
+    (sym (expr-references 23 at (r .end) s (g .ends)) ∙ ap (λ k. pathsFrom s k (r .end)) (sym (g .starts)))
 
--- an array, whose size ended at `end`
-module _ (s : List ℕ) (d : Subject) {jagged : ℕ} (g : ArrayAt 24 s (d .at) jagged) (end : ℕ) (e : Next end ≡ stepOf (readExpr 23 s (d .at + 11))) where
-  element-at : g .element ≡ end
-  element-at = let h = g .size ∙ sym e in cc
+-- an enum, by the references of its tag
+pub enum-violations : {s : List ℕ} (d : Subject) {r : References} → EnumAt 24 s (d .at) → ReferencesAt s (d .at + 12) true r → violationsOf s d ≡ foundIn s d r
+unfolding validateEnumTagConstraints
+enum-violations {s} d g h = ap (validateType (bundleOf s) (d .number) (d .name)) (g .tree) ∙ references-found d h
 
-  pub element-reads : Reads (readTy 23 s end)
+-- an array, by the references of its size
+pub size-reads : {s : List ℕ} {at jagged : ℕ} → ArrayAt 24 s at jagged → Reads (readExpr 23 s (at + 11))
+size-reads {s} {at} g = ended-reads (readExpr 23 s (at + 11)) (g .element) (g .size)
+
+module _ {s : List ℕ} (d : Subject) {jagged : ℕ} {r : References} (g : ArrayAt 24 s (d .at) jagged) (h : ReferencesAt s (d .at + 11) false r) where
+  element-at : g .element ≡ r .end
+  element-at = let e = g .size ∙ sym (h .ends) in cc
+
+  pub element-reads : Reads (readTy 23 s (r .end))
   element-reads = subst (λ k. Reads (readTy 23 s k)) element-at (g .reads)
 
-  pub array-violations : violationsOf s d
-      ≡ push (checkArrayElementTypeSize (bundleOf s) (d .number) (d .name) jagged (typeAt 23 s end))
-      (filterMap (checkReference false (bundleOf s) (d .number) (d .name)) (pathsFrom s (d .at + 11) end))
+  pub array-violations : violationsOf s d ≡ push (checkArrayElementTypeSize (bundleOf s) (d .number) (d .name) jagged (typeAt 23 s (r .end))) (foundIn s d r)
   unfolding validateArraySizeConstraints
   array-violations =
       ap (validateType (bundleOf s) (d .number) (d .name)) (g .tree)
-      ∙ ap₂ (λ k paths. push (checkArrayElementTypeSize (bundleOf s) (d .number) (d .name) jagged (typeAt 23 s k)) (filterMap (checkReference false (bundleOf s) (d .number) (d .name)) paths)) element-at
-      (sym (expr-references 23 (d .at + 11) end s e))
-
-pub size-no : (s : List ℕ) (at k : ℕ) {jagged : ℕ} → ArrayAt 24 s at jagged → Refused k ≡ stepOf (readExpr 23 s (at + 11)) → ⊥
-size-no s at k g e = expr-no (at + 11) k s (ended-reads (readExpr 23 s (at + 11)) (g .element) (g .size)) e
+      ∙ ap₂ (λ k vs. push (checkArrayElementTypeSize (bundleOf s) (d .number) (d .name) jagged (typeAt 23 s k)) vs) element-at (references-found d h)
 
 -- the element's violation first
 module _ {whole : List Violation} (o v : Option Violation) (rest : List Violation) (q : whole ≡ push o rest) (k : v ≡ o) {p : Position} (r : Room p whole) where

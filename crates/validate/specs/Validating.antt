@@ -19,6 +19,9 @@ use Rattle.checks.specs.declared.Check.{Check}
 use Rattle.containers.specs.Containers.{Defined}
 use Rattle.checks.specs.Checks.{violationOf, Fitting}
 use Rattle.meaning.specs.Reader.{little}
+use Rattle.meaning.specs.ReadExpr.{readExpr}
+use Rattle.bundle.specs.declared.Step.the-variants.{Next}
+use Rattle.bundle.specs.View.{stepOf}
 use Rattle.bundle.specs.Definitions.{bundleOf, typeAt}
 use Rattle.sizes.specs.Scan.{pathsFrom}
 use Rattle.validate.specs.declared.Position.{Position}
@@ -65,6 +68,12 @@ pub record Room (p : Position) (vs : List Violation) : Type 0 where
 pub record Among (s : List ℕ) (subject : Subject) : Type 0 where
   pub number : subject .number < definitionLimit
   pub defined : Defined s (subject .name)
+
+-- r spans the expression that was read at a position
+pub record ReferencesAt (s : List ℕ) (at : ℕ) (tag : Bool) (r : References) : Type 0 where
+  pub which : r .tag ≡ tag
+  pub starts : r .at ≡ at
+  pub ends : Next (r .end) ≡ stepOf (readExpr 23 s at)
 
 -- the check of one reference: of an enum's tag, or of an array's size
 abbrev pub checkReference : Bool → Bundle → ℕ → ℕ → List ℕ → Option Violation

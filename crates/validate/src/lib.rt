@@ -1,5 +1,6 @@
 // The references of one definition, gone through one by one, and the record of a violation written.
 use bundle::Layout;
+use bundle::Step;
 use checks::Check;
 use checks::Reference;
 use cycles::Asked;
@@ -12,6 +13,8 @@ ghost use Prim.Native.Nat.{ℕ, _+_, _*_, _≤_, _<_};
 ghost use lib.ListN.{length, getD};
 ghost use Rattle.meaning.specs.Limits.{definitionLimit};
 ghost use Rattle.meaning.specs.Lists.{push};
+ghost use Rattle.meaning.specs.ReadExpr.{readExpr};
+ghost use Rattle.bundle.specs.View.{Reads};
 ghost use Rattle.bundle.specs.Definitions.{bundleOf};
 ghost use Rattle.bundle.specs.Opened.{LayoutOf};
 ghost use Rattle.search.specs.Work.{listIn, Lent, IfWanted};
@@ -22,7 +25,7 @@ ghost use Rattle.violation.specs.Records.{padded};
 ghost use Rattle.field_index.specs.Noted.{DefinitionsNoted};
 ghost use Rattle.containers.specs.Containers.{Known};
 ghost use Rattle.checks.specs.Checks.{violationOf, Fitting, Checked, EdgesPrepared};
-ghost use Rattle.validate.specs.Validating.{Among, Recorded, Wrote, Room, recordWith, pathOfTwo, checkReference, foundIn};
+ghost use Rattle.validate.specs.Validating.{Among, Recorded, ReferencesAt, Wrote, Room, recordWith, pathOfTwo, checkReference, foundIn};
 
 // How far a report is written: the place behind it, and the count of its violations.
 pub struct Position {
@@ -42,6 +45,23 @@ pub struct References {
     pub tag: bool,
     pub at: usize,
     pub end: usize,
+}
+
+// The references in the expression that was read at `at`.
+pub fn references_of(s: &[u8], at: usize, tag: bool) -> References
+    requires { ⌜ Reads (readExpr 23 (now s) at) ⌝ }
+    ensures { λ r. ⌜ ReferencesAt (now (s .entry)) at tag r ⌝ }
+{
+    let step = bundle::expr_at(s, at, bundle::DEPTH_INSIDE);
+    let end = match step {
+        Step::Next(next) => next,
+        Step::Refused(_) => at,
+    };
+    References {
+        tag: tag,
+        at: at,
+        end: end,
+    }
 }
 
 // Name k of the n names of the reference at `path`, and 0 where there are no more.

@@ -1,9 +1,7 @@
 // The three validators.
 use bundle::Layout;
-use bundle::Step;
 use checks::Check;
 use validate::Position;
-use validate::References;
 use validate::Subject;
 ghost use mathlib.Core.Bool.{true, false};
 ghost use Prim.Native.Nat.{_+_, _*_, _≤_, _<_};
@@ -32,30 +30,19 @@ pub fn validate_enum_tag_constraints(
     requires { ⌜ EnumAt 24 (now s) (subject .at) × Room position (violationsOf (now s) subject) ⌝ }
     ensures { λ r. ⌜ Wrote (violationsOf (now (s .entry)) subject) (now (out .entry)) position (now (out .exit)) r × Kept (now (s .entry)) false (now (kept .exit)) ⌝ }
 {
-    let start = subject.at + 12;
-    let step = bundle::expr_at(s, start, bundle::DEPTH_INSIDE);
-    match step {
-        Step::Next(end) => {
-            let references = References {
-                tag: true,
-                at: start,
-                end: end,
-            };
-            validate::validate_references(
-                s,
-                places,
-                layout,
-                kept,
-                subject,
-                references,
-                edges,
-                work,
-                out,
-                position,
-            )
-        }
-        Step::Refused(_) => position,
-    }
+    let references = validate::references_of(s, subject.at + 12, true);
+    validate::validate_references(
+        s,
+        places,
+        layout,
+        kept,
+        subject,
+        references,
+        edges,
+        work,
+        out,
+        position,
+    )
 }
 
 // Writes the violations of an array: for its element, then for each reference of its size.
@@ -81,42 +68,31 @@ pub fn validate_array_size_constraints(
     let name = subject.name;
     let at = subject.at;
     let list = 6 * layout.edges + 1;
-    let start = at + 11;
-    let step = bundle::expr_at(s, start, bundle::DEPTH_INSIDE);
-    match step {
-        Step::Next(element) => {
-            let check = checks::check_array_element_type_size(
-                s,
-                places,
-                layout.definitions,
-                kept,
-                nested,
-                name,
-                s[at + 10],
-                element,
-                &mut work[list..],
-            );
-            let next = validate::put_check(s, out, position, i, name, check, &work[list..]);
-            let references = References {
-                tag: false,
-                at: start,
-                end: element,
-            };
-            validate::validate_references(
-                s,
-                places,
-                layout,
-                kept,
-                subject,
-                references,
-                edges,
-                work,
-                out,
-                next,
-            )
-        }
-        Step::Refused(_) => position,
-    }
+    let references = validate::references_of(s, at + 11, false);
+    let check = checks::check_array_element_type_size(
+        s,
+        places,
+        layout.definitions,
+        kept,
+        nested,
+        name,
+        s[at + 10],
+        references.end,
+        &mut work[list..],
+    );
+    let next = validate::put_check(s, out, position, i, name, check, &work[list..]);
+    validate::validate_references(
+        s,
+        places,
+        layout,
+        kept,
+        subject,
+        references,
+        edges,
+        work,
+        out,
+        next,
+    )
 }
 
 // Writes the violations of a struct: at most one for each of its `count` fields.

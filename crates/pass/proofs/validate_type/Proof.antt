@@ -1,12 +1,11 @@
+-- `pass::validate_type` meets its contract: each shape has its validator.
 use borrow.Author.Needs.{needs}
 use Rattle.pass.proofs.validate_type.Statement.{statement}
 use Rattle.pass.proofs.validate_type.Tie as tie
-use native.Mathlib.Omega.{arith}
 use mathlib.Core.Path.{subst}
 use Rattle.fields.specs.Shapes.{ArrayAt}
 use Rattle.fields.proofs.ShapeLaws.{shape-struct}
 use Rattle.fields.proofs.Walking.{placed-reads}
-use Rattle.search.proofs.Lists.{list-room, list-back}
 use Rattle.validate.proofs.Validators.{shape-enum, shape-array, placed-among, placed-room, placed-wrote, placed-plain, placed-ref}
 
 place-of-requires : tie.Need-place-of-requires
@@ -18,27 +17,8 @@ shape-at-requires c κs = placed-reads (c .before .before .before .before .befor
 enum-known-shape : tie.Need-enum-known-shape
 enum-known-shape c = search needs
 
-mul-list : tie.Need-mul-list
-mul-list c = omega (arith, c .before .before .before .before .before .before .before .before .before .before .before .pre .1 .0 .0 .few)
-
-add-list : tie.Need-add-list
-add-list c = omega (arith, c .before .before .before .before .before .before .before .before .before .before .before .pre .1 .0 .0 .few)
-
-mul-validate-struct-field-constraints : tie.Need-mul-validate-struct-field-constraints
-mul-validate-struct-field-constraints c = omega (arith, c .before .before .before .before .before .before .before .before .before .before .before .pre .1 .0 .0 .few)
-
-sub-validate-struct-field-constraints : tie.Need-sub-validate-struct-field-constraints
-sub-validate-struct-field-constraints c = omega (arith, (c .before .before .before .before .before .before .before .before .before .before .before .pre .0 .1))
-
-part-validate-struct-field-constraints-start :
-    tie.Need-part-validate-struct-field-constraints-start
-part-validate-struct-field-constraints-start c = omega (arith, (c .before .before .before .before .before .before .before .before .before .before .before .pre .0 .1))
-
-part-validate-struct-field-constraints-end : tie.Need-part-validate-struct-field-constraints-end
-part-validate-struct-field-constraints-end c = omega (arith, (c .before .before .before .before .before .before .before .before .before .before .before .pre .0 .1))
-
-validate-struct-field-constraints-requires : tie.Need-validate-struct-field-constraints-requires
-validate-struct-field-constraints-requires c κs = ((c .before .before .before .before .before .before .before .before .before .before .before .before .before .pre .1 .0 .0, placed-among (c .before .before .before .before .before .before .before .before .before .before .before .before .before .pre .1 .0 .0 .table) (c .before .before .before .before .before .before .before .before .before .before .before .before .before .pre .1 .0 .1) (c .before .before .before .before .before .before .before .place-of .ensures), c .before .before .before .before .before .before .before .before .before .before .before .before .before .pre .1 .0 .3), (list-room (c .before .before .before .before .before .before .before .before .before .before .before .before .before .args .layout .edges) (c .before .before .before .before .before .before .before .before .before .before .before .before .before .args .work .now) (c .before .before .before .before .before .before .before .before .before .before .before .before .before .pre .0 .1), shape-struct _ _ _ (c .before .before .before .before .shape .given .1) (c .before .before .before .before .before .before .shape-at .ensures), placed-room _ _ _ (c .before .before .before .before .before .before .before .place-of .ensures) (c .before .before .before .before .before .before .before .before .before .before .before .before .before .pre .1 .0 .2)))
+validate-struct-requires : tie.Need-validate-struct-requires
+validate-struct-requires c κs = ((c .before .before .before .before .before .before .before .before .before .before .before .before .pre .1 .0 .0, placed-among (c .before .before .before .before .before .before .before .before .before .before .before .before .pre .1 .0 .0 .table) (c .before .before .before .before .before .before .before .before .before .before .before .before .pre .1 .0 .1) (c .before .before .before .before .before .before .place-of .ensures), c .before .before .before .before .before .before .before .before .before .before .before .before .pre .1 .0 .3), (c .before .before .before .before .before .before .before .before .before .before .before .before .pre .0 .1, shape-struct _ _ _ (c .before .before .before .shape .given .1) (c .before .before .before .before .before .shape-at .ensures), placed-room _ _ _ (c .before .before .before .before .before .before .place-of .ensures) (c .before .before .before .before .before .before .before .before .before .before .before .before .pre .1 .0 .2)))
 
 enum-told : tie.Need-enum-told
 enum-told c = search needs
@@ -60,13 +40,13 @@ enum-told-4 : tie.Need-enum-told-4
 enum-told-4 c = search needs
 
 same-length : tie.Need-same-length
-same-length c = list-back (c .before .before .before .before .before .before .before .before .before .before .before .before .before .before .before .before .before .before .args .layout .edges) (c .before .before .before .before .before .before .before .before .before .before .before .before .before .before .before .before .before .before .args .work .now) (c .before .before .before .before .before .before .before .before .before .before .before .before .before .before .before .before .before .before .pre .0 .1) (c .before .before .before .before .validate-struct-field-constraints .last .1 .1 .1 .1 .1 .0) (c .before .before .before .before .validate-struct-field-constraints .kept .1 .1 .1 .1 .1 .0) .1 .size
+same-length c = c .before .before .before .before .validate-struct .kept .1 .1 .1 .1 .1 .0
 
 same-length-2 : tie.Need-same-length-2
-same-length-2 c = c .before .before .before .before .validate-struct-field-constraints .kept .1 .1 .1 .1 .1 .1 .0
+same-length-2 c = c .before .before .before .before .validate-struct .kept .1 .1 .1 .1 .1 .1 .0
 
 returns : tie.Need-returns
-returns c = (placed-wrote _ _ _ (c .before .before .before .before .before .before .before .before .before .before .before .before .place-of .ensures) (c .before .before .before .before .validate-struct-field-constraints .ensures), c .before .before .before .before .before .before .before .before .before .before .before .before .before .before .before .before .before .before .pre .1 .1 .1, c .before .before .before .before .before .before .before .before .before .before .before .before .before .before .before .before .before .before .pre .1 .1 .2)
+returns c = (placed-wrote _ _ _ (c .before .before .before .before .before .before .before .before .before .before .before .place-of .ensures) (c .before .before .before .before .validate-struct .ensures), c .before .before .before .before .before .before .before .before .before .before .before .before .before .before .before .before .before .pre .1 .1 .1, c .before .before .before .before .before .before .before .before .before .before .before .before .before .before .before .before .before .pre .1 .1 .2)
 
 same-length-3 : tie.Need-same-length-3
 same-length-3 c = c .before .before .before .before .validate-enum-tag-constraints .kept .1 .1 .1 .1 .1 .1 .0
@@ -99,13 +79,7 @@ validate-type-spec =
     place-of-requires
     shape-at-requires
     enum-known-shape
-    mul-list
-    add-list
-    mul-validate-struct-field-constraints
-    sub-validate-struct-field-constraints
-    part-validate-struct-field-constraints-start
-    part-validate-struct-field-constraints-end
-    validate-struct-field-constraints-requires
+    validate-struct-requires
     enum-told
     validate-enum-tag-constraints-requires
     enum-told-2
