@@ -9,7 +9,7 @@ use Rattle.meaning.specs.Lookup.{count, definitionOf}
 use Rattle.meaning.specs.Circle.{resolve, leadsTo}
 use Rattle.bundle.specs.Definitions.{typeAt, bundleOf, Table}
 use Rattle.scan.specs.Parts.{Part, lead, typeParts}
-use Rattle.scan.specs.Scan.{nameAt, partAt, Run, Records, leadTo, stops, fromStop, NextStop}
+use Rattle.scan.specs.Scan.{recordName, partAt, Run, Records, leadTo, stops, fromStop, NextStop}
 use Rattle.scan.proofs.ScanLaws.{run-none, Lead, first-lead, stop-leads, from-names}
 use Rattle.scan.proofs.Walks.{lead-none, lead-one, definition-flat, definition-lead}
 use Rattle.acceptance.specs.Circles.{unwalked, Marks, Followed, Decided}
@@ -69,13 +69,13 @@ module _ {s : List ℕ} {i end : ℕ} {before marks : List ℕ} {at : ℕ} (w : 
   pub others : Records s (at + 3) end
   others = record { parts = here .rest; run = here .run; bound = w .bound }
 
-  module _ {name j : ℕ} (e : name ≡ nameAt s at) (q : j ≡ definitionOf (bundleOf s) name) where
-    is : j ≡ definitionOf (bundleOf s) (nameAt s at)
+  module _ {name j : ℕ} (e : name ≡ recordName s at) (q : j ≡ definitionOf (bundleOf s) name) where
+    is : j ≡ definitionOf (bundleOf s) (recordName s at)
     is = q ∙ ap (definitionOf (bundleOf s)) e
 
     -- it leads to definition j, which is walked next
     one : j < count (bundleOf s) → leadTo s (w .parts) ≡ (j ∷ []) ++ leadTo s (here .rest)
-    one n = ap (leadTo s) (here .is) ∙ lead-one s (nameAt s at) (here .rest) is n
+    one n = ap (leadTo s) (here .is) ∙ lead-one s (recordName s at) (here .rest) is n
 
     pub walking-inside : j < count (bundleOf s) → Marks (bundleOf s) (j ∷ []) marks
     walking-inside n = marks-left (j ∷ []) (leadTo s (here .rest)) (rw (one n) at (w .marked))
@@ -84,7 +84,7 @@ module _ {s : List ℕ} {i end : ℕ} {before marks : List ℕ} {at : ℕ} (w : 
       -- it leads nowhere
       pub walking-past : count (bundleOf s) ≤ j → Walking s i end before marks next
       walking-past n =
-          let p : leadTo s (w .parts) ≡ leadTo s (fromStop false false (here .rest)) = ap (leadTo s) (here .is) ∙ lead-none s (nameAt s at) (here .rest) is n ∙ sym (onward s (here .rest)) in
+          let p : leadTo s (w .parts) ≡ leadTo s (fromStop false false (here .rest)) = ap (leadTo s) (here .is) ∙ lead-none s (recordName s at) (here .rest) is n ∙ sym (onward s (here .rest)) in
           record {
             bound = w .bound;
             parts = fromStop false false (here .rest);

@@ -5,7 +5,7 @@
 //     5 count + 1 and on    the names, a table with `BUCKETS` buckets
 // The count stands where there is no such edge.
 ghost use mathlib.Core.Path.{_≡_};
-ghost use Prim.Native.Nat.{ℕ, _+_, _*_, _≤_, _<_};
+ghost use Prim.Native.Nat.{_+_, _*_, _≤_, _<_};
 ghost use lib.ListN.{length};
 ghost use Rattle.table.specs.Table.{grown};
 ghost use Rattle.chain.specs.Edges.{graphAt, HasEdges};

@@ -15,11 +15,11 @@ use Rattle.bundle.specs.Definitions.{typeAt, bundleOf, Table}
 use Rattle.fields.specs.Shapes.{DefinitionIs}
 use Rattle.fields.specs.Sought.{refers, named, shown}
 use Rattle.fields.proofs.Lookups.{definition-placed, precedes-zero, precedes-shown}
-use Rattle.field_index.specs.Noted.{fieldsOf, fieldsAt, indexShown}
+use Rattle.field_index.specs.Noted.{structFields, fieldsAt, indexShown}
 use Rattle.containers.specs.Containers.{heldIn, isBefore}
 
 -- the fields of a struct
-the-fields : (t : Ty) (ms : List Member) → asStruct t ≡ some ms → fieldsOf t ≡ ms
+the-fields : (t : Ty) (ms : List Member) → asStruct t ≡ some ms → structFields t ≡ ms
 the-fields (primitive k) ms e = cc
 the-fields (typeRef n) ms e = cc
 the-fields (struct a xs) ms e = cc

@@ -17,7 +17,7 @@ use Rattle.bundle.proofs.LookupLaws.{found-type, found-none}
 use Rattle.fields.specs.Shapes.{DefinitionIs}
 use Rattle.fields.specs.Sought.{refers, shown}
 use Rattle.fields.proofs.Lookups.{definition-placed}
-use Rattle.field_index.specs.Noted.{leadIs, fieldsOf, fieldsAt, constantsAt, markOf, ConstantsNoted}
+use Rattle.field_index.specs.Noted.{leadIs, structFields, fieldsAt, constantsAt, constantMark, ConstantsNoted}
 use Rattle.containers.specs.Containers.{LeadFor, lastHeld, heldIn, containerShown}
 use Rattle.containers.proofs.Containing.{last-held}
 
@@ -35,7 +35,7 @@ module _ (s : List ℕ) (e x : ℕ) where
     held-last {places = places} t {i} {y = y} d l p =
         p ∙ ap shown (last-held l (fieldsAt s places i)) ∙ rw (← c, definition-placed t d .is) (go (typeAt 24 s (getD places i 0)))
       where
-        go : (t : Ty) → shown (lastIndex (refers e) (fieldsOf t)) ≡ lastHeld e (asStruct t)
+        go : (t : Ty) → shown (lastIndex (refers e) (structFields t)) ≡ lastHeld e (asStruct t)
         go (primitive k) = refl
         go (typeRef n) = refl
         go (struct a ms) = refl
@@ -67,7 +67,7 @@ shown-no s e x {r} p l = go (isEnumReferencingSameContainerStruct (bundleOf s) e
     go false q = refl
 
 -- whether the variants of e are of constant size, by what is noted of its first definition
-mark-is : (b : Bool) → eqb (markOf b) 1 ≡ b
+mark-is : (b : Bool) → eqb (constantMark b) 1 ≡ b
 mark-is true = refl
 mark-is false = refl
 

@@ -12,7 +12,7 @@ use lib.ListN.{length, length-set, getD, set}
 use lib.Seq.{getD-set-same, getD-set-other}
 use Rattle.meaning.specs.Sizes.{isEnumWithConstantSizeVariants}
 use Rattle.bundle.specs.Definitions.{typeAt, Table}
-use Rattle.field_index.specs.Noted.{constantsAt, partsAt, markOf, ConstantsNoted, Front}
+use Rattle.field_index.specs.Noted.{constantsAt, partsAt, constantMark, ConstantsNoted, Front}
 use Rattle.field_index.proofs.Structs.{table-set}
 
 -- of the first i of n definitions it is noted
@@ -21,7 +21,7 @@ pub record Marking (s : List ℕ) (n : ℕ) (places₀ places : List ℕ) (i : �
   pub room : partsAt ≤ length places
   pub size : length places ≡ length places₀
   pub table : Table s n places
-  pub each : (j : ℕ) → j < i → getD places (constantsAt + j) 0 ≡ markOf (isEnumWithConstantSizeVariants (typeAt 24 s (getD places j 0)))
+  pub each : (j : ℕ) → j < i → getD places (constantsAt + j) 0 ≡ constantMark (isEnumWithConstantSizeVariants (typeAt 24 s (getD places j 0)))
 
 pub constants-start : {s : List ℕ} {n : ℕ} {places : List ℕ} → Table s n places → partsAt ≤ length places → Marking s n places places 0
 constants-start t l = record { bound = omega arith; room = l; size = refl; table = t; each = λ j c. absurd (omega arith) }
@@ -30,7 +30,7 @@ module _ {s : List ℕ} {n : ℕ} {places₀ places : List ℕ} {i : ℕ} (o : M
   pub constants-small : i < n → i < 256
   constants-small l = omega (arith, o .table .count, o .table .placed .room)
 
-  pub constants-next : i < n → {b : Bool} → b ≡ isEnumWithConstantSizeVariants (typeAt 24 s (getD places i 0)) → {v : ℕ} → v ≡ markOf b → Marking s n places₀ (set places (constantsAt + i) v) (i + 1)
+  pub constants-next : i < n → {b : Bool} → b ≡ isEnumWithConstantSizeVariants (typeAt 24 s (getD places i 0)) → {v : ℕ} → v ≡ constantMark b → Marking s n places₀ (set places (constantsAt + i) v) (i + 1)
   constants-next l {b} e {v} q =
       let k = constantsAt + i in
       let few = constants-small l in
@@ -45,7 +45,7 @@ module _ {s : List ℕ} {n : ℕ} {places₀ places : List ℕ} {i : ℕ} (o : M
             (by-cases (decLt j i) (λ (d : j < i). other (constantsAt + j) (λ z. omega (arith, z)) ∙ o .each j d)
             (λ (d : ¬ (j < i)).
             let z : j ≡ i = omega arith in
-            rw z (getD-set-same places k v 0 (omega (arith, few, o .room)) ∙ q ∙ ap markOf e)));
+            rw z (getD-set-same places k v 0 (omega (arith, few, o .room)) ∙ q ∙ ap constantMark e)));
       }
 
   pub constants-end : n ≤ i → ConstantsNoted s places n

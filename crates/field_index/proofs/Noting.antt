@@ -16,7 +16,7 @@ use Rattle.table.specs.Table.{member, Last, Members, grown, Within}
 use Rattle.tree.specs.Tree.{numberAt, Tree, Entered}
 use Rattle.tree.proofs.Seeking.{same-place}
 use Rattle.tree.proofs.Growing.{tree-same}
-use Rattle.field_index.specs.Noted.{nameAt, treeAt, IsFirst, IsLast, HasName, NotedTo}
+use Rattle.field_index.specs.Noted.{fieldName, treeAt, IsFirst, IsLast, HasName, NotedTo}
 
 -- the places of a table of n members with b buckets hold the same
 abbrev pub Same : List ℕ → List ℕ → ℕ → ℕ → ℕ → Type 0
@@ -57,7 +57,7 @@ pub record Written (t u : List ℕ) (a n d k r : ℕ) : Type 0 where
   pub last-other : (q : ℕ) → q < d → (q ≡ r → ⊥) → getD u (a + 2 + n + q) 0 ≡ getD t (a + 2 + n + q) 0
 
 module _ {t v : List ℕ} (u : List ℕ) {a n d k x r : ℕ} (e : Entered t (treeAt a n) d x r v) (same : SameTree v u (treeAt a n) (grown d r)) (long : length v ≤ length u)
-    (w : Written t u a n d k r) (ms : List Member) (o : NotedTo ms t a n d k) (is : nameAt ms k ≡ x) where
+    (w : Written t u a n d k r) (ms : List Member) (o : NotedTo ms t a n d k) (is : fieldName ms k ≡ x) where
   abbrev name : ℕ → ℕ
   name = numberAt u (treeAt a n)
 
@@ -81,7 +81,7 @@ module _ {t v : List ℕ} (u : List ℕ) {a n d k x r : ℕ} (e : Entered t (tre
   name-old q l = same (treeAt a n + 3 * q) (omega arith) (omega (arith, grown-old q l)) ∙ e .old q l
 
   -- a name that is not the one entered is not the field's
-  other : (q : ℕ) → q < grown d r → (q ≡ r → ⊥) → nameAt ms k ≡ name q → ⊥
+  other : (q : ℕ) → q < grown d r → (q ≡ r → ⊥) → fieldName ms k ≡ name q → ⊥
   other q l ne p =
       by-cases (decLt q r) (λ (c : q < r). apart q r c here-grown (sym p ∙ is ∙ sym named))
       (λ (c : ¬ (q < r)). apart r q (omega arith) l (named ∙ sym is ∙ p))
@@ -101,11 +101,11 @@ module _ {t v : List ℕ} (u : List ℕ) {a n d k x r : ℕ} (e : Entered t (tre
       few : grown d r ≤ k + 1
       few = by-cases (ℕ-discrete r d) (λ (p : r ≡ d). rw (eq-eqb r d p) (omega (arith, o .few))) (λ (p : ¬ (r ≡ d)). rw (ne-eqb r d p) (omega (arith, o .few)))
 
-      all : (i : ℕ) → i < k + 1 → HasName u a n (grown d r) (nameAt ms i)
+      all : (i : ℕ) → i < k + 1 → HasName u a n (grown d r) (fieldName ms i)
       all i l =
           by-cases (decLt i k)
           (λ (c : i < k). let h = o .all i c in (h .0, grown-old (h .0) (h .1), name-old (h .0) (h .1) ∙ h .2))
-          (λ (c : ¬ (i < k)). let z : i ≡ k = omega arith in (r, here-grown, named ∙ sym is ∙ ap (nameAt ms) (sym z)))
+          (λ (c : ¬ (i < k)). let z : i ≡ k = omega arith in (r, here-grown, named ∙ sym is ∙ ap (fieldName ms) (sym z)))
 
       firsts : (q : ℕ) → q < grown d r → IsFirst ms (k + 1) (name q) (getD u (a + 2 + q) 0)
       firsts q l =
@@ -142,13 +142,13 @@ module _ {t v : List ℕ} (u : List ℕ) {a n d k x r : ℕ} (e : Entered t (tre
             here = g .here ∙ sym (name-old q c);
             none = λ i m b p.
                 by-cases (decLt i k) (λ (y : i < k). g .none i m y (p ∙ name-old q c))
-                (λ (y : ¬ (i < k)). let is-k : i ≡ k = omega arith in other q l z (ap (nameAt ms) (sym is-k) ∙ p));
+                (λ (y : ¬ (i < k)). let is-k : i ≡ k = omega arith in other q l z (ap (fieldName ms) (sym is-k) ∙ p));
           }))
 
 -- what the function says of the places before and after
 abbrev pub OneMore : List ℕ → List ℕ → ℕ → ℕ → ℕ → ℕ → ℕ → ℕ → Type 0
 OneMore t u a n d k x D =
-    ((ms : List Member) → NotedTo ms t a n d k → nameAt ms k ≡ x → NotedTo ms u a n D (k + 1)) × Within (a + 2) (a + 2 + 5 * n) t u
+    ((ms : List Member) → NotedTo ms t a n d k → fieldName ms k ≡ x → NotedTo ms u a n D (k + 1)) × Within (a + 2) (a + 2 + 5 * n) t u
 
 module _ {t v : List ℕ} {x : ℕ} (a n d r k : ℕ) (e : Entered t (treeAt a n) d x r v) (f : d < n) (room : a + 2 + 5 * n ≤ length t) where
   abbrev last : List ℕ

@@ -9,10 +9,10 @@ use Rattle.meaning.specs.Lists.{holds}
 use Rattle.meaning.specs.Lookup.{asStruct}
 use Rattle.meaning.specs.Tree.{Ty, primitive, typeRef, struct, union, enum, array, sizeUnion, Member}
 use Rattle.bundle.specs.Definitions.{Table}
-use Rattle.field_index.specs.Noted.{startsAt, fieldsOf, FieldsNoted}
+use Rattle.field_index.specs.Noted.{startsAt, structFields, FieldsNoted}
 
 -- a test that no empty list passes, of the fields of a struct
-pub holds-fields : (f : List Member → Bool) → f [] ≡ false → (t : Ty) → holds f (asStruct t) ≡ f (fieldsOf t)
+pub holds-fields : (f : List Member → Bool) → f [] ≡ false → (t : Ty) → holds f (asStruct t) ≡ f (structFields t)
 holds-fields f e (primitive k) = sym e
 holds-fields f e (typeRef n) = sym e
 holds-fields f e (struct a ms) = refl

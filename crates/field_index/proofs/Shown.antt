@@ -19,11 +19,11 @@ use Rattle.meaning.specs.Lookup.{memberName, memberType, asTypeRef}
 use Rattle.bundle.specs.Definitions.{bundleOf}
 use Rattle.tree.specs.Tree.{Tree, PlaceOf}
 use Rattle.fields.specs.Sought.{named, shown}
-use Rattle.field_index.specs.Noted.{nameAt, treeAt, Part, NotedFor, indexShown, leadShown, leadsOf, leadIs, leadsAt, LeadsTo, LastIn, partOf, fieldsAt, FieldsNoted}
+use Rattle.field_index.specs.Noted.{fieldName, treeAt, NotedPart, NotedFor, indexShown, leadShown, leadsOf, leadIs, leadsAt, LeadsTo, LastIn, partStart, fieldsAt, FieldsNoted}
 
 -- no field has the name
 abbrev Lacks : List Member → ℕ → Type 0
-Lacks ms x = (i : ℕ) → i < length ms → nameAt ms i ≡ x → ⊥
+Lacks ms x = (i : ℕ) → i < length ms → fieldName ms i ≡ x → ⊥
 
 -- what f gives of the fields, and the last of which it gives x
 module _ (f : Member → ℕ) (x : ℕ) where
@@ -48,7 +48,7 @@ module _ (x : ℕ) where
   first-none [] lacks = refl
   first-none (m ∷ ms) lacks = rw (ne-eqb x (memberName m) (λ e. lacks 0 (omega arith) (sym e)), first-none ms (lacks-rest m ms lacks)) refl
 
-  first-at : (ms : List Member) (f : ℕ) → f < length ms → nameAt ms f ≡ x → ((i : ℕ) → i < f → nameAt ms i ≡ x → ⊥) → firstIndex (named x) ms ≡ some f
+  first-at : (ms : List Member) (f : ℕ) → f < length ms → fieldName ms f ≡ x → ((i : ℕ) → i < f → fieldName ms i ≡ x → ⊥) → firstIndex (named x) ms ≡ some f
   first-at [] f l e lacks = absurd (omega arith)
   first-at (m ∷ ms) zero l e lacks = rw (eq-eqb x (memberName m) (sym e)) refl
   first-at (m ∷ ms) (suc f) l e lacks =
@@ -63,7 +63,7 @@ pub shown-no-part : (last : Bool) (x : ℕ) {notes : List ℕ} {a : ℕ} → a �
 shown-no-part true x z ms o = rw (o .none z) refl
 shown-no-part false x z ms o = rw (o .none z) refl
 
-module _ {notes : List ℕ} {a n d r : ℕ} (x : ℕ) (ms : List Member) (p : Part ms notes a) (count : getD notes a 0 ≡ n) (names : getD notes (a + 1) 0 ≡ d)
+module _ {notes : List ℕ} {a n d r : ℕ} (x : ℕ) (ms : List Member) (p : NotedPart ms notes a) (count : getD notes a 0 ≡ n) (names : getD notes (a + 1) 0 ≡ d)
     (q : PlaceOf notes (treeAt a n) d x r) where
   the-count : length ms ≡ n
   the-count = sym (p .count) ∙ count
@@ -129,19 +129,19 @@ last-shown b {notes} a x {r} ms leads l =
     lead m = leadShown b (asTypeRef (memberType m))
 
 -- the places of a part are there, and it has no more names than fields
-pub part-room : {ms : List Member} {notes : List ℕ} {a : ℕ} → Part ms notes a → (a + 2 + 6 * getD notes a 0 ≤ length notes) × (getD notes (a + 1) 0 ≤ getD notes a 0)
+pub part-room : {ms : List Member} {notes : List ℕ} {a : ℕ} → NotedPart ms notes a → (a + 2 + 6 * getD notes a 0 ≤ length notes) × (getD notes (a + 1) 0 ≤ getD notes a 0)
 part-room p = (omega (arith, p .room, p .count), omega (arith, p .all .few, p .count))
 
-pub part-tree : {ms : List Member} {notes : List ℕ} {a : ℕ} → Part ms notes a → Tree notes (treeAt a (getD notes a 0)) (getD notes (a + 1) 0)
+pub part-tree : {ms : List Member} {notes : List ℕ} {a : ℕ} → NotedPart ms notes a → Tree notes (treeAt a (getD notes a 0)) (getD notes (a + 1) 0)
 part-tree {notes = notes} {a = a} p = subst (λ n. Tree notes (treeAt a n) (getD notes (a + 1) 0)) (sym (p .count)) (p .all .tree)
 
 -- the last field of definition i that leads where x says
 module _ {s places : List ℕ} {n i : ℕ} (o : FieldsNoted s places n) (l : i < n) (x : ℕ) where
-  pub lead-no-part : partOf places i ≡ 0 → 0 ≡ shown (lastIndex (leadIs (bundleOf s) x) (fieldsAt s places i))
+  pub lead-no-part : partStart places i ≡ 0 → 0 ≡ shown (lastIndex (leadIs (bundleOf s) x) (fieldsAt s places i))
   lead-no-part z = rw (o .each i l .none z) refl
 
-  pub lead-part : 0 < partOf places i → {r : ℕ} → LastIn places (leadsAt (partOf places i) (getD places (partOf places i) 0)) (getD places (partOf places i) 0) x r
+  pub lead-part : 0 < partStart places i → {r : ℕ} → LastIn places (leadsAt (partStart places i) (getD places (partStart places i) 0)) (getD places (partStart places i) 0) x r
       → r ≡ shown (lastIndex (leadIs (bundleOf s) x) (fieldsAt s places i))
   lead-part c {r} q =
-      last-shown (bundleOf s) (partOf places i) x (fieldsAt s places i) (o .leads i l c)
-      (subst (λ k. LastIn places (leadsAt (partOf places i) k) k x r) (o .each i l .part c .count) q)
+      last-shown (bundleOf s) (partStart places i) x (fieldsAt s places i) (o .leads i l c)
+      (subst (λ k. LastIn places (leadsAt (partStart places i) k) k x r) (o .each i l .part c .count) q)

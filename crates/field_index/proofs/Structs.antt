@@ -27,13 +27,13 @@ use Rattle.fields.proofs.Shape.{the-type}
 use Rattle.fields.proofs.ShapeLaws.{shape-other}
 use Rattle.fields.specs.Shapes.{StructAt, ShapeOf}
 use Rattle.table.specs.Table.{Within}
-use Rattle.field_index.specs.Noted.{startsAt, partsAt, partOf, Part, NotedFor, leadsOf, LeadsTo, fieldsOf, fieldsAt, referencesOf, referencesTo, endBefore, NotedBelow, Front}
+use Rattle.field_index.specs.Noted.{startsAt, partsAt, partStart, NotedPart, NotedFor, leadsOf, LeadsTo, structFields, fieldsAt, referencesOf, referencesTo, endBefore, NotedBelow, Front}
 use Rattle.field_index.proofs.Noting.{members-same}
 use Rattle.field_index.proofs.Walking.{fields, for-same, leads-same}
 use Rattle.field_index.proofs.Widths.{place-next, struct-wide}
 
 -- what is no struct has no fields
-no-fields : (t : Ty) → asStruct t ≡ none → fieldsOf t ≡ []
+no-fields : (t : Ty) → asStruct t ≡ none → structFields t ≡ []
 no-fields (primitive k) e = refl
 no-fields (typeRef n) e = refl
 no-fields (struct a ms) e = let z : _≡_ {A = ℕ} 0 1 = cc in absurd (omega arith)
@@ -42,13 +42,13 @@ no-fields (enum a tag ms) e = refl
 no-fields (array a jagged size element) e = refl
 no-fields (sizeUnion a ms) e = refl
 
-pub shape-fields : (at : ℕ) (s : List ℕ) (r : Shape) → OneOf (1 ∷ 2 ∷ 3 ∷ 4 ∷ []) (tagOf the-type r) → ShapeOf 24 s at r → fieldsOf (typeAt 24 s at) ≡ []
+pub shape-fields : (at : ℕ) (s : List ℕ) (r : Shape) → OneOf (1 ∷ 2 ∷ 3 ∷ 4 ∷ []) (tagOf the-type r) → ShapeOf 24 s at r → structFields (typeAt 24 s at) ≡ []
 shape-fields at s r o g = no-fields (typeAt 24 s at) (shape-other 24 at s r o g)
 
-pub struct-fields : (at : ℕ) (s : List ℕ) {n : ℕ} → StructAt 24 s at n → fieldsOf (typeAt 24 s at) ≡ fields s (at + 12) n
+pub struct-fields : (at : ℕ) (s : List ℕ) {n : ℕ} → StructAt 24 s at n → structFields (typeAt 24 s at) ≡ fields s (at + 12) n
 struct-fields at s g = rw (g .tree) refl
 
-pub struct-empty : (at : ℕ) (s : List ℕ) {n : ℕ} → StructAt 24 s at n → n ≡ 0 → fieldsOf (typeAt 24 s at) ≡ []
+pub struct-empty : (at : ℕ) (s : List ℕ) {n : ℕ} → StructAt 24 s at n → n ≡ 0 → structFields (typeAt 24 s at) ≡ []
 struct-empty at s {n} g z = struct-fields at s g ∙ ap listOf (members-none 23 0x50 s n (at + 12) z)
 
 pub below-start : {s : List ℕ} (places : List ℕ) → length s ≤ 32768 → 2 * partsAt + 3 * length s + 9 ≤ 2 * length places → NotedBelow s places 0 partsAt
@@ -87,7 +87,7 @@ module _ {s : List ℕ} {count : ℕ} {places : List ℕ} (t : Table s count pla
     below j c = same j (omega (arith, o .below .from)) (λ z. omega (arith, z))
 
     fields-stay : (j : ℕ) → j < startsAt → fieldsAt s u j ≡ fieldsAt s places j
-    fields-stay j c = ap (λ a. fieldsOf (typeAt 24 s a)) (below j c)
+    fields-stay j c = ap (λ a. structFields (typeAt 24 s a)) (below j c)
 
     -- as many references
     references-stay : (j : ℕ) → j < startsAt → referencesTo s u j ≡ referencesTo s places j
@@ -97,23 +97,23 @@ module _ {s : List ℕ} {count : ℕ} {places : List ℕ} (t : Table s count pla
         (ap length (ap₂ (λ x y. referencesFrom s x (y - 3)) (below j (omega arith)) (below (j + 1) (omega arith))))
 
     -- a part before those used, and what is in it
-    part-stays : (j : ℕ) → j < i → partOf u j ≡ partOf places j
+    part-stays : (j : ℕ) → j < i → partStart u j ≡ partStart places j
     part-stays j c = same (startsAt + j) (omega (arith, few, o .below .from)) (λ z. omega (arith, z))
 
-    inside-stays : (j : ℕ) → j < i → 0 < partOf places j → (k : ℕ) → partOf places j ≤ k → k < partOf places j + 2 + 6 * length (fieldsAt s places j) → getD u k 0 ≡ getD places k 0
+    inside-stays : (j : ℕ) → j < i → 0 < partStart places j → (k : ℕ) → partStart places j ≤ k → k < partStart places j + 2 + 6 * length (fieldsAt s places j) → getD u k 0 ≡ getD places k 0
     inside-stays j c a k b d = let q = o .below .parts j c a in same k (omega (arith, q .1)) (λ z. omega (arith, z, few, q .0))
 
-    kept : (j : ℕ) → j < i → NotedFor (fieldsAt s u j) u (partOf u j)
-    kept j c = rw (fields-stay j (omega (arith, few)), part-stays j c) (for-same (fieldsAt s places j) places u (partOf places j) (inside-stays j c) (omega (arith, long)) (o .below .noted .each j c))
+    kept : (j : ℕ) → j < i → NotedFor (fieldsAt s u j) u (partStart u j)
+    kept j c = rw (fields-stay j (omega (arith, few)), part-stays j c) (for-same (fieldsAt s places j) places u (partStart places j) (inside-stays j c) (omega (arith, long)) (o .below .noted .each j c))
 
-    leads-kept : (j : ℕ) → j < i → 0 < partOf u j → LeadsTo (leadsOf (bundleOf s) (fieldsAt s u j)) u (partOf u j) (length (fieldsAt s u j)) (length (fieldsAt s u j))
-    leads-kept j c = rw (fields-stay j (omega (arith, few)), part-stays j c) (leads-same (fieldsAt s places j) places u (partOf places j) (inside-stays j c) (leadsOf (bundleOf s) (fieldsAt s places j)) (o .below .noted .leads j c))
+    leads-kept : (j : ℕ) → j < i → 0 < partStart u j → LeadsTo (leadsOf (bundleOf s) (fieldsAt s u j)) u (partStart u j) (length (fieldsAt s u j)) (length (fieldsAt s u j))
+    leads-kept j c = rw (fields-stay j (omega (arith, few)), part-stays j c) (leads-same (fieldsAt s places j) places u (partStart places j) (inside-stays j c) (leadsOf (bundleOf s) (fieldsAt s places j)) (o .below .noted .leads j c))
 
     -- the fields of definition i are noted up to a place
-    pub below-next : {used′ : ℕ} → NotedFor (fieldsAt s places i) u (partOf u i)
-        → (0 < partOf u i → LeadsTo (leadsOf (bundleOf s) (fieldsAt s places i)) u (partOf u i) (length (fieldsAt s places i)) (length (fieldsAt s places i)))
+    pub below-next : {used′ : ℕ} → NotedFor (fieldsAt s places i) u (partStart u i)
+        → (0 < partStart u i → LeadsTo (leadsOf (bundleOf s) (fieldsAt s places i)) u (partStart u i) (length (fieldsAt s places i)) (length (fieldsAt s places i)))
         → 4 * length (fieldsAt s places i) ≤ length s → used ≤ used′ → 2 * used′ + 6 * (referencesTo s places i + length (referencesOf s places i)) ≤ 2 * partsAt + 3 * getD places (i + 1) 0
-        → (0 < partOf u i → (partsAt ≤ partOf u i) × (partOf u i + 2 + 6 * length (fieldsAt s places i) ≤ used′))
+        → (0 < partStart u i → (partsAt ≤ partStart u i) × (partStart u i + 2 + 6 * length (fieldsAt s places i) ≤ used′))
         → NotedBelow s u (i + 1) used′ × Front places u
     below-next {used′} here leads small more room part = (
       record {
@@ -158,7 +158,7 @@ module _ {s : List ℕ} {count : ℕ} {places : List ℕ} (t : Table s count pla
       (omega (arith, ap length e)) (omega arith) (omega (arith, so-far, place-next t l)) (λ c. absurd (omega (arith, here, c)))
 
   -- it is a struct with n fields, noted behind the other parts
-  pub below-struct : {n : ℕ} {u : List ℕ} → StructAt 24 s (getD places i 0) n → Part (fields s (getD places i 0 + 12) n) u used
+  pub below-struct : {n : ℕ} {u : List ℕ} → StructAt 24 s (getD places i 0) n → NotedPart (fields s (getD places i 0 + 12) n) u used
       → LeadsTo (leadsOf (bundleOf s) (fields s (getD places i 0 + 12) n)) u used n n
       → Within used (used + 2 + 6 * n) (set (set places (startsAt + i) 0) (startsAt + i) used) u → NotedBelow s u (i + 1) (used + 2 + 6 * n) × Front places u
   below-struct {n} {u} g p leads w =

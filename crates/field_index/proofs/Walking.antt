@@ -21,7 +21,7 @@ use Rattle.fields.specs.Shapes.{FieldAt}
 use Rattle.fields.proofs.Walking.{Passing, passing-next, passing-tree}
 use Rattle.table.specs.Table.{Within}
 use Rattle.tree.proofs.Growing.{tree-same, tree-none}
-use Rattle.field_index.specs.Noted.{nameAt, treeAt, NotedTo, Part, NotedFor, leadShown, leadsOf, leadsAt, LeadsTo}
+use Rattle.field_index.specs.Noted.{fieldName, treeAt, NotedTo, NotedPart, NotedFor, leadShown, leadsOf, leadsAt, LeadsTo}
 use Rattle.field_index.proofs.Noting.{OneMore}
 
 -- places of the part at a from its names on hold the same
@@ -40,7 +40,7 @@ noted-same {t = t} u {a} {n} {d} l same long o =
     name r c = same (treeAt a n + 3 * r) (omega arith) (omega arith)
 
 part-same : {ms : List Member} {t : List ℕ} (u : List ℕ) {a : ℕ} → ((i : ℕ) → a ≤ i → i < a + 2 + 6 * length ms → getD u i 0 ≡ getD t i 0)
-    → length t ≤ length u → Part ms t a → Part ms u a
+    → length t ≤ length u → NotedPart ms t a → NotedPart ms u a
 part-same {ms} {t} u {a} same long p =
     record {
       some = p .some;
@@ -118,7 +118,7 @@ module _ {s : List ℕ} {at n : ℕ} {t : List ℕ} {a : ℕ} {u : List ℕ} {ne
     here : (what : Member → ℕ) → (getD (map what (fields s at n)) k 0 ≡ what (member (f .name) (g .value) (typeAt 23 s (f .at)))) × (fields s (f .next) (n - k - 1) ≡ drop (k + 1) (fields s at n))
     here what = left-name what (fields s at n) k (sym (ap listOf (passing-tree (o .pass) (omega arith) g)) ∙ o .rest)
 
-    pub noting-name : nameAt (fields s at n) k ≡ f .name
+    pub noting-name : fieldName (fields s at n) k ≡ f .name
     noting-name = here memberName .0
 
     -- the name of one field more, and where it leads
@@ -152,7 +152,7 @@ module _ {s : List ℕ} {at n : ℕ} {t : List ℕ} {a : ℕ} {u : List ℕ} {ne
         one-less k n = omega arith
 
   pub noting-end : {t₀ : List ℕ} → n ≤ k → 0 < n → a + 2 + 6 * n ≤ length t₀ → Reads (readMembers (readTy 23) 0x50 n s at) → Within a (a + 2 + 6 * n) t₀ t
-      → Part (fields s at n) (set u (a + 1) d) a × LeadsTo (leadsOf (bundleOf s) (fields s at n)) (set u (a + 1) d) a n n × Within a (a + 2 + 6 * n) t₀ (set u (a + 1) d)
+      → NotedPart (fields s at n) (set u (a + 1) d) a × LeadsTo (leadsOf (bundleOf s) (fields s at n)) (set u (a + 1) d) a n n × Within a (a + 2 + 6 * n) t₀ (set u (a + 1) d)
   noting-end l some room reads begun =
       let e : length (fields s at n) ≡ n = members-length 23 0x50 s n at reads in
       let k-n : k ≡ n = omega (arith, o .bound) in

@@ -18,8 +18,8 @@ use Rattle.tree.specs.Tree.{Tree, numberAt}
 use Rattle.fields.specs.Sought.{named, shown}
 
 -- the name of field k
-abbrev pub nameAt : List Member → ℕ → ℕ
-nameAt ms k = getD (map memberName ms) k 0
+abbrev pub fieldName : List Member → ℕ → ℕ
+fieldName ms k = getD (map memberName ms) k 0
 
 -- where the tree of names stands in a part at a for n fields
 abbrev pub treeAt : ℕ → ℕ → ℕ
@@ -28,14 +28,14 @@ treeAt a n = a + 2 + 2 * n
 -- of the first k fields, f is the first that has the name x
 pub record IsFirst (ms : List Member) (k x f : ℕ) : Type 0 where
   pub below : f < k
-  pub here : nameAt ms f ≡ x
-  pub none : (i : ℕ) → i < f → nameAt ms i ≡ x → ⊥
+  pub here : fieldName ms f ≡ x
+  pub none : (i : ℕ) → i < f → fieldName ms i ≡ x → ⊥
 
 -- of the first k fields, l is the last that has the name x
 pub record IsLast (ms : List Member) (k x l : ℕ) : Type 0 where
   pub below : l < k
-  pub here : nameAt ms l ≡ x
-  pub none : (i : ℕ) → l < i → i < k → nameAt ms i ≡ x → ⊥
+  pub here : fieldName ms l ≡ x
+  pub none : (i : ℕ) → l < i → i < k → fieldName ms i ≡ x → ⊥
 
 -- one of d names is x
 abbrev pub HasName : List ℕ → ℕ → ℕ → ℕ → ℕ → Type 0
@@ -45,12 +45,12 @@ HasName notes a n d x = (r : ℕ) × (r < d) × (numberAt notes (treeAt a n) r �
 pub record NotedTo (ms : List Member) (notes : List ℕ) (a n d k : ℕ) : Type 0 where
   pub tree : Tree notes (treeAt a n) d
   pub few : d ≤ k
-  pub all : (i : ℕ) → i < k → HasName notes a n d (nameAt ms i)
+  pub all : (i : ℕ) → i < k → HasName notes a n d (fieldName ms i)
   pub firsts : (r : ℕ) → r < d → IsFirst ms k (numberAt notes (treeAt a n) r) (getD notes (a + 2 + r) 0)
   pub lasts : (r : ℕ) → r < d → IsLast ms k (numberAt notes (treeAt a n) r) (getD notes (a + 2 + n + r) 0)
 
 -- all fields ms are noted in the part at a
-pub record Part (ms : List Member) (notes : List ℕ) (a : ℕ) : Type 0 where
+pub record NotedPart (ms : List Member) (notes : List ℕ) (a : ℕ) : Type 0 where
   pub some : 0 < length ms
   pub count : getD notes a 0 ≡ length ms
   pub room : a + 2 + 6 * length ms ≤ length notes
@@ -87,7 +87,7 @@ LeadsTo leads notes a n k = (i : ℕ) → i < k → getD notes (leadsAt a n + i)
 -- the fields ms have a part at a, or there is none where a is 0
 pub record NotedFor (ms : List Member) (notes : List ℕ) (a : ℕ) : Type 0 where
   pub none : a ≡ 0 → ms ≡ []
-  pub part : 0 < a → Part ms notes a
+  pub part : 0 < a → NotedPart ms notes a
 
 -- one more than the index of the first field of the name x, or of the last, and 0 where there is none
 abbrev pub indexShown : Bool → ℕ → List Member → ℕ
@@ -95,18 +95,18 @@ indexShown false x ms = shown (firstIndex (named x) ms)
 indexShown true x ms = shown (lastIndex (named x) ms)
 
 -- the fields of a type, none where it is no struct
-abbrev pub fieldsOf : Ty → List Member
-fieldsOf (primitive k) = []
-fieldsOf (typeRef n) = []
-fieldsOf (struct a ms) = listOf ms
-fieldsOf (union a ms) = []
-fieldsOf (enum a tag ms) = []
-fieldsOf (array a jagged size element) = []
-fieldsOf (sizeUnion a ms) = []
+abbrev pub structFields : Ty → List Member
+structFields (primitive k) = []
+structFields (typeRef n) = []
+structFields (struct a ms) = listOf ms
+structFields (union a ms) = []
+structFields (enum a tag ms) = []
+structFields (array a jagged size element) = []
+structFields (sizeUnion a ms) = []
 
 -- the fields of definition i
 abbrev pub fieldsAt : List ℕ → List ℕ → ℕ → List Member
-fieldsAt s places i = fieldsOf (typeAt 24 s (getD places i 0))
+fieldsAt s places i = structFields (typeAt 24 s (getD places i 0))
 
 -- where it stands for each definition whether it is an enum with variants of constant size
 abbrev pub constantsAt : ℕ
@@ -121,8 +121,8 @@ abbrev pub partsAt : ℕ
 partsAt = startsAt + definitionLimit + definitionLimit + 1
 
 -- where the part of definition i starts
-abbrev pub partOf : List ℕ → ℕ → ℕ
-partOf places i = getD places (startsAt + i) 0
+abbrev pub partStart : List ℕ → ℕ → ℕ
+partStart places i = getD places (startsAt + i) 0
 
 -- the references in definition i
 abbrev pub referencesOf : List ℕ → List ℕ → ℕ → List ℕ
@@ -141,16 +141,16 @@ endBefore places (suc n) = getD places (suc n) 0
 -- the fields of n definitions are noted
 pub record FieldsNoted (s places : List ℕ) (n : ℕ) : Type 0 where
   pub size : partsAt ≤ length places
-  pub each : (i : ℕ) → i < n → NotedFor (fieldsAt s places i) places (partOf places i)
-  pub leads : (i : ℕ) → i < n → 0 < partOf places i
-      → LeadsTo (leadsOf (bundleOf s) (fieldsAt s places i)) places (partOf places i) (length (fieldsAt s places i)) (length (fieldsAt s places i))
+  pub each : (i : ℕ) → i < n → NotedFor (fieldsAt s places i) places (partStart places i)
+  pub leads : (i : ℕ) → i < n → 0 < partStart places i
+      → LeadsTo (leadsOf (bundleOf s) (fieldsAt s places i)) places (partStart places i) (length (fieldsAt s places i)) (length (fieldsAt s places i))
   pub few : (i : ℕ) → i < n → 4 * length (fieldsAt s places i) ≤ length s
 
 -- the same, in parts before `used`
 pub record FieldsBelow (s places : List ℕ) (n used : ℕ) : Type 0 where
   pub noted : FieldsNoted s places n
   pub from : partsAt ≤ used
-  pub parts : (i : ℕ) → i < n → 0 < partOf places i → (partsAt ≤ partOf places i) × (partOf places i + 2 + 6 * length (fieldsAt s places i) ≤ used)
+  pub parts : (i : ℕ) → i < n → 0 < partStart places i → (partsAt ≤ partStart places i) × (partStart places i + 2 + 6 * length (fieldsAt s places i) ≤ used)
 
 -- the same where the parts, and three places for each reference, take at most three places for every two bytes of the n definitions
 pub record NotedBelow (s places : List ℕ) (n used : ℕ) : Type 0 where
@@ -160,14 +160,14 @@ pub record NotedBelow (s places : List ℕ) (n used : ℕ) : Type 0 where
   pub short : length s ≤ 32768
 
 -- how it is noted
-abbrev pub markOf : Bool → ℕ
-markOf true = 1
-markOf false = 0
+abbrev pub constantMark : Bool → ℕ
+constantMark true = 1
+constantMark false = 0
 
 -- it is noted of n definitions
 pub record ConstantsNoted (s places : List ℕ) (n : ℕ) : Type 0 where
   pub size : startsAt ≤ length places
-  pub each : (i : ℕ) → i < n → getD places (constantsAt + i) 0 ≡ markOf (isEnumWithConstantSizeVariants (typeAt 24 s (getD places i 0)))
+  pub each : (i : ℕ) → i < n → getD places (constantsAt + i) 0 ≡ constantMark (isEnumWithConstantSizeVariants (typeAt 24 s (getD places i 0)))
 
 -- that, and the fields of the definitions
 pub record DefinitionsNoted (s places : List ℕ) (n : ℕ) : Type 0 where

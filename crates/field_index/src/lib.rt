@@ -17,7 +17,7 @@ ghost use Rattle.bundle.specs.Definitions.{typeAt, membersAt, bundleOf, Table};
 ghost use Rattle.fields.specs.Sought.{shown};
 ghost use Rattle.table.specs.Table.{Within};
 ghost use Rattle.tree.specs.Tree.{Tree};
-ghost use Rattle.field_index.specs.Noted.{nameAt, treeAt, startsAt, partsAt, NotedTo, Part, NotedFor, indexShown, leadShown, leadsOf, LeadsTo, leadIs, LastIn, fieldsAt, markOf, ConstantsNoted, FieldsNoted, NotedBelow, Front};
+ghost use Rattle.field_index.specs.Noted.{fieldName, treeAt, startsAt, partsAt, NotedTo, NotedPart, NotedFor, indexShown, leadShown, leadsOf, LeadsTo, leadIs, LastIn, fieldsAt, constantMark, ConstantsNoted, FieldsNoted, NotedBelow, Front};
 
 // Where it stands for each definition whether it is an enum with variants of constant size.
 pub const CONSTANTS_AT: usize = bundle::PLACES;
@@ -32,8 +32,8 @@ pub const LISTS_AT: usize = STARTS_AT + bundle::DEFINITIONS;
 pub const PARTS_AT: usize = LISTS_AT + bundle::DEFINITIONS + 1;
 
 // How it is noted whether a definition is an enum with variants of constant size.
-fn mark_of(constant: bool) -> u16
-    ensures { λ r. ⌜ r ≡ markOf constant ⌝ }
+fn constant_mark(constant: bool) -> u16
+    ensures { λ r. ⌜ r ≡ constantMark constant ⌝ }
 {
     if constant { 1 } else { 0 }
 }
@@ -47,7 +47,7 @@ pub fn note_constants(s: &[u8], places: &mut [u16], count: usize)
     while i < count {
         let at = places[i] as usize;
         let constant = sizes::is_enum_with_constant_size_variants(s, at, bundle::DEPTH_LIMIT);
-        places[CONSTANTS_AT + i] = mark_of(constant);
+        places[CONSTANTS_AT + i] = constant_mark(constant);
         i += 1;
     }
 }
@@ -55,8 +55,8 @@ pub fn note_constants(s: &[u8], places: &mut [u16], count: usize)
 // Notes that field `k` of the `n` has the name `x`, in the part at `a` with `d` names. Returns how many names there are then.
 fn note_name(notes: &mut [u16], a: usize, n: usize, d: usize, k: usize, x: u16) -> usize
     requires { ⌜ (k < n) × (n < 65535) × (a + 2 + 5 * n ≤ length (now notes)) ⌝ }
-    requires { ⌜ ((ms : List Member) × NotedTo ms (now notes) a n d k × (nameAt ms k ≡ x)) ⌝ }
-    ensures { λ r. ⌜ ((ms : List Member) → NotedTo ms (now (notes .entry)) a n d k → nameAt ms k ≡ x → NotedTo ms (now (notes .exit)) a n r (k + 1)) × Within (a + 2) (a + 2 + 5 * n) (now (notes .entry)) (now (notes .exit)) ⌝ }
+    requires { ⌜ ((ms : List Member) × NotedTo ms (now notes) a n d k × (fieldName ms k ≡ x)) ⌝ }
+    ensures { λ r. ⌜ ((ms : List Member) → NotedTo ms (now (notes .entry)) a n d k → fieldName ms k ≡ x → NotedTo ms (now (notes .exit)) a n r (k + 1)) × Within (a + 2) (a + 2 + 5 * n) (now (notes .entry)) (now (notes .exit)) ⌝ }
 {
     let r = tree::enter(notes, a + 2 + 2 * n, d, x);
     notes[a + 2 + n + r] = k as u16;
@@ -84,7 +84,7 @@ fn lead_at(s: &[u8], places: &[u16], count: usize, at: usize) -> usize
 fn note_fields(s: &[u8], count: usize, at: usize, n: usize, notes: &mut [u16], a: usize)
     requires { ⌜ Table (now s) count (now notes) × Reads (readMembers (readTy 23) 0x50 n (now s) at) ⌝ }
     requires { ⌜ (0 < n) × (partsAt ≤ a) × (a + 2 + 6 * n ≤ length (now notes)) × (a + 2 + 6 * n < 65536) ⌝ }
-    ensures { λ _. ⌜ Part (listOf (membersAt 23 0x50 n (now (s .entry)) at)) (now (notes .exit)) a × LeadsTo (leadsOf (bundleOf (now (s .entry))) (listOf (membersAt 23 0x50 n (now (s .entry)) at))) (now (notes .exit)) a n n × Within a (a + 2 + 6 * n) (now (notes .entry)) (now (notes .exit)) ⌝ }
+    ensures { λ _. ⌜ NotedPart (listOf (membersAt 23 0x50 n (now (s .entry)) at)) (now (notes .exit)) a × LeadsTo (leadsOf (bundleOf (now (s .entry))) (listOf (membersAt 23 0x50 n (now (s .entry)) at))) (now (notes .exit)) a n n × Within a (a + 2 + 6 * n) (now (notes .entry)) (now (notes .exit)) ⌝ }
 {
     notes[a] = n as u16;
     let mut next = at;
@@ -150,7 +150,7 @@ fn index_at(notes: &[u16], a: usize, n: usize, r: usize, last: bool) -> usize
 // The same of the name `x`, and 0 where no field has it.
 fn index_in(notes: &[u16], a: usize, n: usize, d: usize, last: bool, x: u16) -> usize
     requires { ⌜ (a + 2 + 5 * n ≤ length (now notes)) × (d ≤ n) × Tree (now notes) (treeAt a n) d ⌝ }
-    ensures { λ r. ⌜ ((ms : List Member) → Part ms (now (notes .entry)) a → getD (now (notes .entry)) a 0 ≡ n → getD (now (notes .entry)) (a + 1) 0 ≡ d → r ≡ indexShown last x ms) ⌝ }
+    ensures { λ r. ⌜ ((ms : List Member) → NotedPart ms (now (notes .entry)) a → getD (now (notes .entry)) a 0 ≡ n → getD (now (notes .entry)) (a + 1) 0 ≡ d → r ≡ indexShown last x ms) ⌝ }
 {
     let r = tree::place_of(notes, a + 2 + 2 * n, d, x);
     if r == d {

@@ -19,7 +19,7 @@ use Rattle.sizes.specs.Scan.{pathAt}
 use Rattle.fields.specs.Shapes.{DefinitionIs}
 use Rattle.fields.specs.Sought.{named, shown}
 use Rattle.fields.proofs.Lookups.{definition-placed, struct-none}
-use Rattle.field_index.specs.Noted.{startsAt, fieldsOf, fieldsAt, indexShown, FieldsNoted}
+use Rattle.field_index.specs.Noted.{startsAt, structFields, fieldsAt, indexShown, FieldsNoted}
 use Rattle.checks.specs.declared.Part.the-variants as part
 use Rattle.checks.specs.Checks.{targetAt, typePart, PartOf}
 use Rattle.checks.proofs.ForwardChecks.{no-field}
@@ -31,7 +31,7 @@ no-first field ne [] = refl
 no-first field ne (m ∷ ms) = rw (no-first field ne ms, no-field field ne (memberName m))
 
 -- of one name, in the fields of a type
-shown-fields : (f : ℕ) (t : Ty) → firstShown (f ∷ []) (asStruct t) ≡ indexShown false f (fieldsOf t)
+shown-fields : (f : ℕ) (t : Ty) → firstShown (f ∷ []) (asStruct t) ≡ indexShown false f (structFields t)
 shown-fields f (primitive k) = refl
 shown-fields f (typeRef n) = refl
 shown-fields f (struct a ms) = refl

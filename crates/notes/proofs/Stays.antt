@@ -14,7 +14,7 @@ use Rattle.bundle.specs.declared.Layout.{Layout}
 use Rattle.bundle.specs.Definitions.{typeAt, bundleOf, Table}
 use Rattle.bundle.specs.Opened.{LayoutOf}
 use Rattle.table.specs.Table.{Within}
-use Rattle.field_index.specs.Noted.{startsAt, partsAt, partOf, leadsOf, fieldsOf, fieldsAt, referencesTo, ConstantsNoted, FieldsBelow, NotedBelow}
+use Rattle.field_index.specs.Noted.{startsAt, partsAt, partStart, leadsOf, structFields, fieldsAt, referencesTo, ConstantsNoted, FieldsBelow, NotedBelow}
 use Rattle.field_index.proofs.Constants.{constants-stay}
 use Rattle.field_index.proofs.Structs.{below-room, table-stays}
 use Rattle.field_index.proofs.Walking.{for-same, leads-same}
@@ -72,22 +72,22 @@ fields-kept {s} {n} {t} {u} few k o =
     record {
       noted = record {
         size = omega (arith, k .size, o .noted .size);
-        each = λ i c. rw (same i c, start i c) (for-same (fieldsAt s t i) t u (partOf t i) (inside i c) (omega (arith, k .size)) (o .noted .each i c));
-        leads = λ i c. rw (same i c, start i c) (leads-same (fieldsAt s t i) t u (partOf t i) (inside i c) (leadsOf (bundleOf s) (fieldsAt s t i)) (o .noted .leads i c));
+        each = λ i c. rw (same i c, start i c) (for-same (fieldsAt s t i) t u (partStart t i) (inside i c) (omega (arith, k .size)) (o .noted .each i c));
+        leads = λ i c. rw (same i c, start i c) (leads-same (fieldsAt s t i) t u (partStart t i) (inside i c) (leadsOf (bundleOf s) (fieldsAt s t i)) (o .noted .leads i c));
         few = λ i c. rw (same i c) (o .noted .few i c);
       };
       from = o .from;
       parts = λ i c. rw (same i c, start i c) (o .parts i c);
     }
   where
-    start : (i : ℕ) → i < n → partOf u i ≡ partOf t i
+    start : (i : ℕ) → i < n → partStart u i ≡ partStart t i
     start i c = k .front (startsAt + i) (omega arith)
 
-    inside : (i : ℕ) → i < n → 0 < partOf t i → (j : ℕ) → partOf t i ≤ j → j < partOf t i + 2 + 6 * length (fieldsAt s t i) → getD u j 0 ≡ getD t j 0
+    inside : (i : ℕ) → i < n → 0 < partStart t i → (j : ℕ) → partStart t i ≤ j → j < partStart t i + 2 + 6 * length (fieldsAt s t i) → getD u j 0 ≡ getD t j 0
     inside i c h j b d = let q = o .parts i c h in k .back j (omega (arith, q .0)) (omega (arith, q .1))
 
     same : (i : ℕ) → i < n → fieldsAt s u i ≡ fieldsAt s t i
-    same i c = ap (λ a. fieldsOf (typeAt 24 s a)) (k .front i (omega arith))
+    same i c = ap (λ a. structFields (typeAt 24 s a)) (k .front i (omega arith))
 
 -- a list
 pub lists-length : (s t : List ℕ) (e a : ℕ) (ps : List ℕ) → Lists s t e a ps → a + 3 * length ps ≡ e

@@ -21,7 +21,7 @@ use Rattle.bundle.proofs.Form.{the-type}
 use Rattle.bundle.proofs.TypeForm as type-form
 use Rattle.scan.specs.declared.Piece.the-variants.{Stops, Length}
 use Rattle.scan.specs.Parts.{Part, other, lead, reference, arrayed, sized, isLead, leadNames}
-use Rattle.scan.specs.Scan.{recordLength, nameAt, partOf, formAt, partAt, recordEnd, Run, Records, stops, fromStop, NextStop, pieceOf}
+use Rattle.scan.specs.Scan.{recordLength, recordName, partOf, formAt, partAt, recordEnd, Run, Records, stops, fromStop, NextStop, pieceOf}
 
 -- every record has a length
 pub some-length : (f : Form) → 0 < recordLength f
@@ -131,7 +131,7 @@ module _ (s : List ℕ) where
 
   -- a record at which the walk stops that asks for nothing else leads, and has a name and nothing else
   pub record Leading (at : ℕ) : Type 0 where
-    pub says : partAt s at ≡ lead (nameAt s at)
+    pub says : partAt s at ≡ lead (recordName s at)
     pub end : recordEnd s at ≡ at + 3
 
   pub leading : (at : ℕ) → isLead (partAt s at) ≡ true → Leading at
@@ -152,7 +152,7 @@ module _ (s : List ℕ) where
   -- the first record, where it leads
   pub record Lead (end at : ℕ) (ps : List Part) : Type 0 where
     pub rest : List Part
-    pub is : ps ≡ lead (nameAt s at) ∷ rest
+    pub is : ps ≡ lead (recordName s at) ∷ rest
     pub there : at + 3 ≤ end
     pub run : Run s end (at + 3) rest
 

@@ -49,8 +49,8 @@ isSizeUnion (OfRecord before names behind) = false
 isSizeUnion Unknown = false
 
 -- the name of the record at a position
-abbrev pub nameAt : List ℕ → ℕ → ℕ
-nameAt s at = little s (at + 1) 2
+abbrev pub recordName : List ℕ → ℕ → ℕ
+recordName s at = little s (at + 1) 2
 
 -- what a record of this form at a position says
 unfoldable pub partOf : List ℕ → ℕ → Form → Part
@@ -61,7 +61,7 @@ partOf s at (OfExpr Alignof) = other
 partOf s at (OfExpr Binary) = other
 partOf s at (OfExpr Unary) = other
 partOf s at (OfType Primitive) = other
-partOf s at (OfType TypeRef) = lead (nameAt s at)
+partOf s at (OfType TypeRef) = lead (recordName s at)
 partOf s at (OfType Struct) = other
 partOf s at (OfType Union) = other
 partOf s at (OfType Enum) = other

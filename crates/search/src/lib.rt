@@ -8,7 +8,7 @@
 //     6 count + 1 and on    the list for a chain
 use chain::Found;
 ghost use mathlib.Core.Path.{_≡_};
-ghost use mathlib.Core.List.{List, map};
+ghost use mathlib.Core.List.{map};
 ghost use Prim.Native.Nat.{ℕ, suc, _+_, _*_, _≤_, _<_};
 ghost use lib.ListN.{length, getD, take};
 ghost use Rattle.meaning.specs.Chain.{chainOf};

@@ -22,7 +22,7 @@ use Rattle.bundle.specs.Definitions.{typeAt, bundleOf, Table}
 use Rattle.bundle.proofs.Trees.{refused-no}
 use Rattle.bundle.proofs.LookupLaws.{placed-type, found-none}
 use Rattle.scan.specs.Parts.{Part, lead, typeParts, leadNames, isLead}
-use Rattle.scan.specs.Scan.{nameAt, partAt, Run, Records, leadTo, stops, fromStop, NextStop}
+use Rattle.scan.specs.Scan.{recordName, partAt, Run, Records, leadTo, stops, fromStop, NextStop}
 use Rattle.scan.proofs.ScanLaws.{unique, run-none, First, first, Lead, first-lead, leading, from-names}
 use Rattle.scan.proofs.Flat.{type-flat}
 use Rattle.scan.proofs.PartLaws.{names-append}
@@ -89,21 +89,21 @@ module _ {s : List ℕ} {j : Bool} {left at end : ℕ} {kept : List ℕ} {next :
       others = record { parts = led .rest; run = led .run; bound = t .bound }
 
       -- to definition i
-      module _ {n : ℕ} {places : List ℕ} (tb : Table s n places) {name i : ℕ} (x : name ≡ nameAt s next) (p : i ≡ definitionOf (bundleOf s) name) where
-        is : i ≡ definitionOf (bundleOf s) (nameAt s next)
+      module _ {n : ℕ} {places : List ℕ} (tb : Table s n places) {name i : ℕ} (x : name ≡ recordName s next) (p : i ≡ definitionOf (bundleOf s) name) where
+        is : i ≡ definitionOf (bundleOf s) (recordName s next)
         is = p ∙ ap (definitionOf (bundleOf s)) x
 
         -- what is known of the name
-        equation : (j : Bool) → circles (bundleOf s) ≡ false → known j s (nameAt s next) ≡ answerAt j s (definitionOf (bundleOf s) (nameAt s next))
+        equation : (j : Bool) → circles (bundleOf s) ≡ false → known j s (recordName s next) ≡ answerAt j s (definitionOf (bundleOf s) (recordName s next))
         unfolding answerAt namedHolds findType
-        equation true c = answer-equation (namedOf true) jagged-test (bundleOf s) c (nameAt s next)
-        equation false c = answer-equation (namedOf false) named-test (bundleOf s) c (nameAt s next)
+        equation true c = answer-equation (namedOf true) jagged-test (bundleOf s) c (recordName s next)
+        equation false c = answer-equation (namedOf false) named-test (bundleOf s) c (recordName s next)
 
         split : someCounts j s (t .parts) ≡ (answerAt j s i || someCounts j s (led .rest))
-        split = ap (someCounts j s) (led .is) ∙ counts-more j s (lead (nameAt s next)) (led .rest) ∙ ap (_|| someCounts j s (led .rest)) (equation j (t .ready .ends) ∙ ap (answerAt j s) (sym is))
+        split = ap (someCounts j s) (led .is) ∙ counts-more j s (lead (recordName s next)) (led .rest) ∙ ap (_|| someCounts j s (led .rest)) (equation j (t .ready .ends) ∙ ap (answerAt j s) (sym is))
 
         one : i < n → leadTo s (t .parts) ≡ i ∷ leadTo s (led .rest)
-        one l = ap (leadTo s) (led .is) ∙ lead-one s (nameAt s next) (led .rest) is (omega (arith, tb .count))
+        one l = ap (leadTo s) (led .is) ∙ lead-one s (recordName s next) (led .rest) is (omega (arith, tb .count))
 
         -- which is tested next
         pub testing-inside : i < n → Ready s j left (i ∷ []) kept
@@ -131,14 +131,14 @@ module _ {s : List ℕ} {j : Bool} {left at end : ℕ} {kept : List ℕ} {next :
           testing-next m a b k = testing-on (sym a ∙ b) (ready-behind (ready-same (one m) (t .ready)) k)
 
           -- there is none
-          none-is : n ≤ i → answerAt j s (definitionOf (bundleOf s) (nameAt s next)) ≡ false
+          none-is : n ≤ i → answerAt j s (definitionOf (bundleOf s) (recordName s next)) ≡ false
           unfolding answerAt findType
-          none-is m = ap (holds (namedHolds j s)) (found-none tb i (nameAt s next) is m)
+          none-is m = ap (holds (namedHolds j s)) (found-none tb i (recordName s next) is m)
 
           pub testing-past : n ≤ i → Testing s j left at end kept after
           testing-past m =
               testing-on (ap (answerAt j s) is ∙ none-is m)
-              (ready-same (ap (leadTo s) (led .is) ∙ lead-none s (nameAt s next) (led .rest) is (omega (arith, tb .count))) (t .ready))
+              (ready-same (ap (leadTo s) (led .is) ∙ lead-none s (recordName s next) (led .rest) is (omega (arith, tb .count))) (t .ready))
 
 -- definition i
 module _ {s : List ℕ} {n : ℕ} {places : List ℕ} (tb : Table s n places) {j : Bool} {left i : ℕ} {kept : List ℕ} (h : i < n) (g : Ready s j left (i ∷ []) kept) where

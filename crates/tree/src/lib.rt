@@ -3,7 +3,6 @@
 // 17 steps at most whatever the numbers are.
 ghost use Prim.Native.Nat.{_+_, _*_, _≤_, _<_};
 ghost use lib.ListN.{length};
-ghost use Rattle.table.specs.Table.{Within};
 ghost use Rattle.tree.specs.Tree.{Tree, EndOf, PlaceOf, Entered, Node};
 
 // Where a search ends: at a number, or at a link that leads nowhere.

@@ -30,8 +30,8 @@ is-enum-with-constant-size-variants-requires :
     tie.Need-is-enum-with-constant-size-variants-requires Inv-loop μ-loop
 is-enum-with-constant-size-variants-requires c κs = placed-at (c .before .before .loop .inv .table) (c .before .before .loop .i) (omega arith) .reads
 
-mark-of-requires : tie.Need-mark-of-requires Inv-loop μ-loop
-mark-of-requires c κs = search needs
+constant-mark-requires : tie.Need-constant-mark-requires Inv-loop μ-loop
+constant-mark-requires c κs = search needs
 
 add-places : tie.Need-add-places Inv-loop μ-loop
 add-places c = search needs
@@ -49,7 +49,7 @@ loop-less : tie.Need-loop-less Inv-loop μ-loop
 loop-less c = search needs
 
 loop-again : tie.Need-loop-again Inv-loop μ-loop
-loop-again c = constants-next (c .before .before .before .before .loop .inv) (omega arith) (c .before .is-enum-with-constant-size-variants .ensures) (c .mark-of .ensures)
+loop-again c = constants-next (c .before .before .before .before .loop .inv) (omega arith) (c .before .is-enum-with-constant-size-variants .ensures) (c .constant-mark .ensures)
 
 same-length : tie.Need-same-length Inv-loop μ-loop
 same-length c = c .before .loop .inv .size
@@ -68,7 +68,7 @@ note-constants-spec =
     slice-read-at
     cast-at
     is-enum-with-constant-size-variants-requires
-    mark-of-requires
+    constant-mark-requires
     add-places
     mul-places
     slice-write-places
