@@ -14,7 +14,7 @@ use lib.Seq.{getD-set-same, getD-set-other}
 use Rattle.meaning.specs.Tree.{Member}
 use Rattle.table.specs.Table.{member, Last, Members, grown, Within}
 use Rattle.tree.specs.Tree.{numberAt, Tree, Entered}
-use Rattle.tree.proofs.Seeking.{same-place}
+use Rattle.tree.proofs.Searching.{same-place}
 use Rattle.tree.proofs.Growing.{tree-same}
 use Rattle.field_index.specs.Noted.{fieldName, treeAt, IsFirst, IsLast, HasName, NotedTo}
 
@@ -49,7 +49,7 @@ module _ {t : List ℕ} (u : List ℕ) {a b n : ℕ} (m : Members t a b n) (same
 abbrev pub SameTree : List ℕ → List ℕ → ℕ → ℕ → Type 0
 SameTree t u a n = (i : ℕ) → a ≤ i → i < a + 3 * n → getD u i 0 ≡ getD t i 0
 
--- x is entered at r in the tree, and k is written as the last index of r, and as the first where r is new
+-- u is t with k written as the last index of name r, and as the first where r is a new name
 pub record Written (t u : List ℕ) (a n d k r : ℕ) : Type 0 where
   pub first-old : (q : ℕ) → q < d → getD u (a + 2 + q) 0 ≡ getD t (a + 2 + q) 0
   pub first-new : r ≡ d → getD u (a + 2 + r) 0 ≡ k

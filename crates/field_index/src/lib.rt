@@ -1,7 +1,8 @@
 // The fields of every struct by their names: noted once for a bundle, behind the places of its definitions, and then looked up.
 // Behind those places stands for each definition whether it is an enum with variants of constant size; then for each where its part starts,
-// and 0 where it is no struct or has no field; then come the places where the lists of references start (crate notes), and then the parts. A part has the count of fields and the count of their names, then for each name the index of the first field that has it, then for each the index of the
-// last, then a tree of the names, then for each field where its type leads.
+// and 0 where it is no struct or has no field; then come the places where the lists of references start (crate notes), and then the parts.
+// A part has the count of fields and the count of their names, then for each name the index of the first field that has it, then for each
+// the index of the last, then a tree of the names, then for each field where its type leads.
 use fields::Shape;
 ghost use mathlib.Core.Path.{_≡_};
 ghost use mathlib.Core.Bool.{cond};

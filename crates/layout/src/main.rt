@@ -1,5 +1,6 @@
 // Reads a bundle from standard input and writes what the program's arguments ask for to standard output: its report, the bundle with
-// its names renumbered, or a chain; for a refused bundle 7E and the number of its refusal. Messages go to standard error, as when one of the two fails.
+// its names renumbered, or a chain; for a refused bundle 7E and the number of its refusal. Messages go to standard error, as when one of
+// the two fails.
 use bundle::Answer;
 use words::Input;
 use words::Message;

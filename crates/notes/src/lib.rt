@@ -127,8 +127,8 @@ fn list_references(s: &[u8], places: &mut [u16], layout: Layout, used: usize)
     }
 }
 
-// Notes which definitions are enums with variants of constant size, the fields of every struct and the references that each definition needs. What stands behind the places of the definitions before
-// is free.
+// Notes which definitions are enums with variants of constant size, the fields of every struct and the references that each definition
+// needs. What stands behind the places of the definitions before is free.
 pub fn note(s: &[u8], places: &mut [u16], layout: Layout)
     requires { ⌜ LayoutOf (now s) layout (now places) × (2 * partsAt + 3 * length (now s) + 9 ≤ 2 * length (now places)) ⌝ }
     ensures { λ _. ⌜ LayoutOf (now (s .entry)) layout (now (places .exit)) × Noted (now (s .entry)) (now (places .exit)) (layout .definitions) ⌝ }

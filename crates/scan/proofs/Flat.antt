@@ -66,7 +66,7 @@ module _ (s : List ℕ) where
     array-is = λ at a size t. refl;
     none-is = refl;
     more-is = λ at w n v t ms. refl;
-    sized = λ d at i m a ms l p e q g. both (single at i (OfType SizeUnion) p q (omega (arith, forward g, g .bound))) g;
+    sizeUnion-is = λ d at i m a ms l p e q g. both (single at i (OfType SizeUnion) p q (omega (arith, forward g, g .bound))) g;
   }
 
   -- what was read is such a run

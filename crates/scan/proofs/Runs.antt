@@ -64,7 +64,7 @@ pub record Scan (s : List ℕ) (limit : ℕ) (A : Type 0) : Type 1 where
   pub none-is : ofMembers none ≡ []
   pub more-is : (at w n v : ℕ) (t : Ty) (ms : Members) → ofMembers (more (member n v t) ms) ≡ one at (OfMember w) ++ (ofType t ++ ofMembers ms)
   -- for a size-discriminated union that was read, by its members
-  pub sized : (d at i m : ℕ) (a : Attributes) (ms : Members) → d ≤ limit → formAt s at ≡ OfType SizeUnion → Next m ≡ stepOf (readTy d s at)
+  pub sizeUnion-is : (d at i m : ℕ) (a : Attributes) (ms : Members) → d ≤ limit → formAt s at ≡ OfType SizeUnion → Next m ≡ stepOf (readTy d s at)
       → i ≡ at + recordLength (OfType SizeUnion) → Flat i m (ofMembers ms) → Flat at m (ofType (sizeUnion a ms))
 
 module _ {s : List ℕ} {limit : ℕ} {A : Type 0} (x : Scan s limit A) where
@@ -170,7 +170,7 @@ module _ {s : List ℕ} {limit : ℕ} {A : Type 0} (x : Scan s limit A) where
     type-node (OfType Union) p =
         grouped (union-count t-opened t-reads p) (λ n i. union-parts t-opened t-reads n i p) (λ i a ms q g. rw (x .union-is at a ms) (headed (OfType Union) p refl q g))
     type-node (OfType SizeUnion) p =
-        grouped (sizeUnion-count t-opened t-reads p) (λ n i. sizeUnion-parts t-opened t-reads n i p) (λ i a ms q g. x .sized d at i m a ms l p e q g)
+        grouped (sizeUnion-count t-opened t-reads p) (λ n i. sizeUnion-parts t-opened t-reads n i p) (λ i a ms q g. x .sizeUnion-is d at i m a ms l p e q g)
     type-node (OfType Enum) p =
         let a = enum-at t-opened t-reads p in
         let g = a .parts in

@@ -27,7 +27,7 @@ use Rattle.scan.specs.Scan.{recordLength, isSizeUnion, formAt}
 use Rattle.scan.proofs.Flat.{type-forward}
 use Rattle.scan.proofs.Runs as runs
 use Rattle.scan.proofs.ScanLaws.{some-length}
-use Rattle.sizes.specs.Scan.{also, recordEnd, namesIn, pathAt, referencesFrom, pathsFrom, Fits}
+use Rattle.sizes.specs.Scan.{also, nextAt, namesIn, pathAt, referencesFrom, pathsFrom, Fits}
 use Rattle.sizes.proofs.ScanLaws.{step, nothing-left, plain-end, union-next, names-end}
 
 -- how many names there are
@@ -104,7 +104,7 @@ module _ (s : List ℕ) where
   pathOf at (some n) = namesFrom s (at + 1) n ∷ []
 
   -- one record, which ends at m
-  module _ (at m : ℕ) (q : recordEnd (formAt s at) s at ≡ m) (l : at < m) (b : m ≤ length s) where
+  module _ (at m : ℕ) (q : nextAt (formAt s at) s at ≡ m) (l : at < m) (b : m ≤ length s) where
     behind : (t : Option ℕ) → namesIn (formAt s at) ≡ t → (end : ℕ) → m ≤ end → referencesFrom s at end ≡ also t at (referencesFrom s m end)
     behind t k end h = step s at end (omega arith) (omega (arith, q)) ∙ ap₂ (λ t n. also t at (referencesFrom s n end)) k q
 
@@ -126,7 +126,7 @@ module _ (s : List ℕ) where
   -- the same of a record that is not passed over
   single : (at m : ℕ) (f : Form) → formAt s at ≡ f → isSizeUnion f ≡ false → m ≡ at + recordLength f → m ≤ length s → Flat at m (pathOf at (namesIn f))
   single at m f p u e b =
-      let q : recordEnd (formAt s at) s at ≡ m = rw p (plain-end s at f u ∙ sym e) in
+      let q : nextAt (formAt s at) s at ≡ m = rw p (plain-end s at f u ∙ sym e) in
       one at m q (omega (arith, some-length f)) b (namesIn f) (ap namesIn p)
 
   -- a scan that hands out the paths of field references
@@ -157,9 +157,9 @@ module _ (s : List ℕ) where
     array-is = λ at a size t. refl;
     none-is = refl;
     more-is = λ at w n v t ms. refl;
-    sized = λ d at i m a ms l p e q g.
+    sizeUnion-is = λ d at i m a ms l p e q g.
         let x = type-deeper d depthLimit l s at _ m (ended-ok (readTy d s at) m (primitive 0) e) in
-        let u : recordEnd (formAt s at) s at ≡ m = rw p (union-next s at m (rw x)) in
+        let u : nextAt (formAt s at) s at ≡ m = rw p (union-next s at m (rw x)) in
         one at m u (type-forward s d at m e) (g .bound) none (ap namesIn p);
   }
 

@@ -14,7 +14,7 @@ use Rattle.bundle.proofs.Form.{the-type}
 use Rattle.scan.specs.Scan.{formAt}
 use Rattle.sizes.specs.declared.Found.the-variants.{At, Nothing}
 use Rattle.sizes.specs.declared.Names.the-variants.{Of, No}
-use Rattle.sizes.specs.Scan.{also, recordEnd, namesIn, namesOf, referencesFrom, foundOf}
+use Rattle.sizes.specs.Scan.{also, nextAt, namesIn, namesOf, referencesFrom, foundOf}
 use Rattle.sizes.proofs.ScanLaws.{step, nothing-left, record-forward}
 
 -- a form that is no expression's, by the variant's number
@@ -32,17 +32,17 @@ module _ (s : List ℕ) (at end : ℕ) (f : kinds.Form) (e : f ≡ formAt s at) 
   pub step-found : (k : ℕ) → Of k ≡ namesOf (namesIn f) → foundOf (referencesFrom s at end) ≡ At at
   step-found k q = ap foundOf (step s at end l (record-forward s at)) ∙ go (namesIn (formAt s at)) (rw (← e) q)
     where
-      go : (x : Option ℕ) → Of k ≡ namesOf x → foundOf (also x at (referencesFrom s (recordEnd (formAt s at) s at) end)) ≡ At at
+      go : (x : Option ℕ) → Of k ≡ namesOf x → foundOf (also x at (referencesFrom s (nextAt (formAt s at) s at) end)) ≡ At at
       go none q = let z : _≡_ {A = ℕ} 0 1 = cc in absurd (omega arith)
       go (some n) q = refl
 
   -- it is another, which ends at m
-  module _ (m : ℕ) (p : m ≡ recordEnd f s at) where
+  module _ (m : ℕ) (p : m ≡ nextAt f s at) where
     pub step-other : No ≡ namesOf (namesIn f) → referencesFrom s m end ≡ referencesFrom s at end
     step-other q = sym (step s at end l (record-forward s at) ∙ go (namesIn (formAt s at)) (rw (← e) q) ∙ rw (p, e))
       where
         go : (x : Option ℕ) → No ≡ namesOf x
-            → also x at (referencesFrom s (recordEnd (formAt s at) s at) end) ≡ referencesFrom s (recordEnd (formAt s at) s at) end
+            → also x at (referencesFrom s (nextAt (formAt s at) s at) end) ≡ referencesFrom s (nextAt (formAt s at) s at) end
         go none q = refl
         go (some n) q = let z : _≡_ {A = ℕ} 0 1 = cc in absurd (omega arith)
 

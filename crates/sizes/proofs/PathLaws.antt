@@ -14,7 +14,7 @@ use Rattle.scan.specs.Scan.{formAt}
 use Rattle.sizes.specs.declared.Found.the-variants.{At}
 use Rattle.sizes.specs.declared.Names.the-variants.{Of, No}
 use Rattle.sizes.specs.Paths.{Fit}
-use Rattle.sizes.specs.Scan.{also, recordEnd, namesIn, namesOf, namesAt, pathAt, referencesFrom, foundOf, Fits}
+use Rattle.sizes.specs.Scan.{also, nextAt, namesIn, namesOf, namesAt, pathAt, referencesFrom, foundOf, Fits}
 use Rattle.sizes.proofs.ScanLaws.{step, nothing-left, record-forward, names-end}
 use Rattle.sizes.proofs.Flat.{length-names, path-is}
 
@@ -75,16 +75,16 @@ module _ (s : List ℕ) (end : ℕ) where
   module _ (p : ℕ) where
     -- one record at `at`, by what is found behind it
     split-step : (at : ℕ) → at < end → At p ≡ foundOf (referencesFrom s at end)
-        → (At p ≡ foundOf (referencesFrom s (recordEnd (formAt s at) s at) end) → Split (recordEnd (formAt s at) s at) p) → Split at p
+        → (At p ≡ foundOf (referencesFrom s (nextAt (formAt s at) s at) end) → Split (nextAt (formAt s at) s at) p) → Split at p
     split-step at h e later = go (namesIn (formAt s at)) refl (step s at end h (record-forward s at))
       where
-        go : (x : Option ℕ) → namesIn (formAt s at) ≡ x → referencesFrom s at end ≡ also x at (referencesFrom s (recordEnd (formAt s at) s at) end) → Split at p
+        go : (x : Option ℕ) → namesIn (formAt s at) ≡ x → referencesFrom s at end ≡ also x at (referencesFrom s (nextAt (formAt s at) s at) end) → Split at p
         go none n q =
             let g = later (e ∙ ap foundOf q) in
             record { rest = q ∙ g .rest; from = omega (arith, g .from, record-forward s at); before = g .before }
         go (some k) n q =
             let i : p ≡ at = at-same (e ∙ ap foundOf q) in
-            let b : recordEnd (formAt s at) s at ≡ p + 1 + 2 * length (pathAt s p) = names-end s (formAt s at) at k n ∙ rw (i, path-is s at k n .1) in
+            let b : nextAt (formAt s at) s at ≡ p + 1 + 2 * length (pathAt s p) = names-end s (formAt s at) at k n ∙ rw (i, path-is s at k n .1) in
             record { rest = q ∙ ap₂ (λ x y. x ∷ referencesFrom s y end) (sym i) b; from = omega arith; before = omega arith }
           where
             at-same : {x y : ℕ} → At x ≡ At y → x ≡ y
@@ -98,9 +98,9 @@ module _ (s : List ℕ) (end : ℕ) where
 
         go : (k i : ℕ) → end - i ≤ k → At p ≡ foundOf (referencesFrom s i end) → Split i p
         go zero i l e = absurd (none-left i (omega arith) e)
-        go (suc k) i l e = either (side i end) (go k (recordEnd (formAt s i) s i) (omega (arith, record-forward s i)))
+        go (suc k) i l e = either (side i end) (go k (nextAt (formAt s i) s i) (omega (arith, record-forward s i)))
           where
-            either : (i < end) ⊎ (end ≤ i) → (At p ≡ foundOf (referencesFrom s (recordEnd (formAt s i) s i) end) → Split (recordEnd (formAt s i) s i) p) → Split i p
+            either : (i < end) ⊎ (end ≤ i) → (At p ≡ foundOf (referencesFrom s (nextAt (formAt s i) s i) end) → Split (nextAt (formAt s i) s i) p) → Split i p
             either (inl h) later = split-step i h e later
             either (inr h) later = absurd (none-left i h e)
 

@@ -19,7 +19,7 @@ use Rattle.bundle.proofs.Heads.{ended-ok}
 use Rattle.scan.specs.Scan.{recordLength, isSizeUnion, formAt}
 use Rattle.scan.proofs.Flat.{type-forward}
 use Rattle.scan.proofs.ScanLaws.{some-length}
-use Rattle.sizes.specs.Scan.{endOr, also, recordEnd, namesIn, positions, referencesFrom}
+use Rattle.sizes.specs.Scan.{endOr, also, nextAt, namesIn, positions, referencesFrom}
 
 module _ (s : List ℕ) where
   -- a byte before the next record, and one at it
@@ -27,7 +27,7 @@ module _ (s : List ℕ) where
   unfolding positions
   before n m at h = rw (lt-ltb at m h)
 
-  there : (n m at : ℕ) → m ≤ at → positions s (suc n) m at ≡ also (namesIn (formAt s at)) at (positions s n (recordEnd (formAt s at) s at) (suc at))
+  there : (n m at : ℕ) → m ≤ at → positions s (suc n) m at ≡ also (namesIn (formAt s at)) at (positions s n (nextAt (formAt s at) s at) (suc at))
   unfolding positions
   there n m at h = rw (le-ltb at m h)
 
@@ -50,11 +50,11 @@ module _ (s : List ℕ) where
           ap (positions s (suc n) m) e ∙ ap (λ k. positions s k m m) p
 
   -- the record at `at`, and those behind it
-  pub step : (at end : ℕ) → at < end → at < recordEnd (formAt s at) s at
-      → referencesFrom s at end ≡ also (namesIn (formAt s at)) at (referencesFrom s (recordEnd (formAt s at) s at) end)
+  pub step : (at end : ℕ) → at < end → at < nextAt (formAt s at) s at
+      → referencesFrom s at end ≡ also (namesIn (formAt s at)) at (referencesFrom s (nextAt (formAt s at) s at) end)
   unfolding referencesFrom
   step at end h g =
-      let m = recordEnd (formAt s at) s at in
+      let m = nextAt (formAt s at) s at in
       let p : end - at ≡ suc (end - suc at) = omega arith in
       let q : (end - suc at) - (m - suc at) ≡ end - m = omega arith in
       ap (λ k. positions s k at at) p
@@ -67,17 +67,17 @@ module _ (s : List ℕ) where
   nothing-left at end h = let p : end - at ≡ 0 = omega arith in ap (λ k. positions s k at at) p ∙ none-left at at
 
 -- where a record ends that is not passed over
-pub plain-end : (s : List ℕ) (at : ℕ) (f : Form) → isSizeUnion f ≡ false → recordEnd f s at ≡ at + recordLength f
-unfolding recordEnd
+pub plain-end : (s : List ℕ) (at : ℕ) (f : Form) → isSizeUnion f ≡ false → nextAt f s at ≡ at + recordLength f
+unfolding nextAt
 plain-end s at f u = rw u
 
 -- the end of a size-discriminated union
-pub union-next : (s : List ℕ) (at m : ℕ) → Next m ≡ stepOf (readTy depthLimit s at) → recordEnd (OfType SizeUnion) s at ≡ m
-unfolding recordEnd isSizeUnion
+pub union-next : (s : List ℕ) (at m : ℕ) → Next m ≡ stepOf (readTy depthLimit s at) → nextAt (OfType SizeUnion) s at ≡ m
+unfolding nextAt isSizeUnion
 union-next s at m e = rw (ended-ok (readTy depthLimit s at) m (primitive 0) e)
 
-pub union-refused : (s : List ℕ) (at k : ℕ) → Refused k ≡ stepOf (readTy depthLimit s at) → recordEnd (OfType SizeUnion) s at ≡ at + 1
-unfolding recordEnd isSizeUnion
+pub union-refused : (s : List ℕ) (at k : ℕ) → Refused k ≡ stepOf (readTy depthLimit s at) → nextAt (OfType SizeUnion) s at ≡ at + 1
+unfolding nextAt isSizeUnion
 union-refused s at k e = go (readTy depthLimit s at) e
   where
     go : (x : Read Ty) → Refused k ≡ stepOf x → endOr (at + 1) x ≡ at + 1
@@ -85,8 +85,8 @@ union-refused s at k e = go (readTy depthLimit s at) e
     go (refused j) e = refl
 
 -- every record ends behind its start
-pub record-forward : (s : List ℕ) (at : ℕ) → at < recordEnd (formAt s at) s at
-unfolding recordEnd
+pub record-forward : (s : List ℕ) (at : ℕ) → at < nextAt (formAt s at) s at
+unfolding nextAt
 record-forward s at = go (isSizeUnion (formAt s at)) (readTy depthLimit s at) refl
   where
     go : (t : Bool) (x : Read Ty) → readTy depthLimit s at ≡ x → at < cond t (endOr (at + 1) x) (at + recordLength (formAt s at))
@@ -95,8 +95,8 @@ record-forward s at = go (isSizeUnion (formAt s at)) (readTy depthLimit s at) re
     go false x p = omega (arith, some-length (formAt s at))
 
 -- where a field reference ends
-pub names-end : (s : List ℕ) (f : Form) (at n : ℕ) → namesIn f ≡ some n → recordEnd f s at ≡ at + 1 + 2 * n
-unfolding namesIn recordEnd recordLength isSizeUnion
+pub names-end : (s : List ℕ) (f : Form) (at n : ℕ) → namesIn f ≡ some n → nextAt f s at ≡ at + 1 + 2 * n
+unfolding namesIn nextAt recordLength isSizeUnion
 names-end s (OfExpr (FieldRef k)) at n e = let p : k ≡ n = cc in omega arith
 names-end s (OfExpr (Literal w)) at n e = let z : _≡_ {A = ℕ} 0 1 = cc in absurd (omega arith)
 names-end s (OfExpr Sizeof) at n e = let z : _≡_ {A = ℕ} 0 1 = cc in absurd (omega arith)

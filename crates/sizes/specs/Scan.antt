@@ -21,9 +21,9 @@ abbrev pub endOr : {A : Type 0} → ℕ → Read A → ℕ
 endOr z (ok a m) = m
 endOr z (refused k) = z
 
--- where the record at a position, of this form, ends; a size-discriminated union is passed over whole
-unfoldable pub recordEnd : Form → List ℕ → ℕ → ℕ
-recordEnd f s at = cond (isSizeUnion f) (endOr (at + 1) (readTy depthLimit s at)) (at + recordLength f)
+-- where a scan for references goes on behind a record of this form: at its end, or behind the whole of a size-discriminated union
+unfoldable pub nextAt : Form → List ℕ → ℕ → ℕ
+nextAt f s at = cond (isSizeUnion f) (endOr (at + 1) (readTy depthLimit s at)) (at + recordLength f)
 
 -- the count of names, where the form is a field reference's
 unfoldable pub namesIn : Form → Option ℕ
@@ -57,7 +57,7 @@ unfoldable pub positions : List ℕ → ℕ → ℕ → ℕ → List ℕ
 positions s zero next at = []
 positions s (suc n) next at =
     cond (ltb at next) (positions s n next (suc at))
-    (also (namesIn (formAt s at)) at (positions s n (recordEnd (formAt s at) s at) (suc at)))
+    (also (namesIn (formAt s at)) at (positions s n (nextAt (formAt s at) s at) (suc at)))
 
 -- those from one start of a record to another
 unfoldable pub referencesFrom : List ℕ → ℕ → ℕ → List ℕ

@@ -21,7 +21,7 @@ ghost use Rattle.bundle.specs.Definitions.{typeAt, membersAt};
 ghost use Rattle.bundle.specs.Expressions.{exprAt};
 ghost use Rattle.scan.specs.Scan.{recordLength};
 ghost use Rattle.sizes.specs.Paths.{Fit, targetMeant, sizeShown};
-ghost use Rattle.sizes.specs.Scan.{recordEnd, namesIn, namesOf, pathAt, referencesFrom, foundOf};
+ghost use Rattle.sizes.specs.Scan.{nextAt, namesIn, namesOf, pathAt, referencesFrom, foundOf};
 
 // The position of a field reference.
 pub enum Found {
@@ -47,7 +47,7 @@ fn expr_end(at: usize, e: ExprForm) -> usize
 // Where the type's record at `at` ends; a size-discriminated union is passed over whole.
 fn type_end(s: &[u8], at: usize, t: TypeForm) -> usize
     requires { ⌜ at ≤ sizeLimit ⌝ }
-    ensures { λ r. ⌜ r ≡ recordEnd (OfType (typeFormMeant t)) (now (s .entry)) at ⌝ }
+    ensures { λ r. ⌜ r ≡ nextAt (OfType (typeFormMeant t)) (now (s .entry)) at ⌝ }
 {
     match t {
         TypeForm::Primitive => at + 1,
@@ -66,10 +66,10 @@ fn type_end(s: &[u8], at: usize, t: TypeForm) -> usize
     }
 }
 
-// Where the record at `at`, of this form, ends.
-fn record_end(s: &[u8], at: usize, form: Form) -> usize
+// Where a scan for references goes on behind the record at `at`, of this form.
+fn next_at(s: &[u8], at: usize, form: Form) -> usize
     requires { ⌜ at ≤ sizeLimit ⌝ }
-    ensures { λ r. ⌜ r ≡ recordEnd (formMeant form) (now (s .entry)) at ⌝ }
+    ensures { λ r. ⌜ r ≡ nextAt (formMeant form) (now (s .entry)) at ⌝ }
 {
     match form {
         Form::OfExpr(e) => expr_end(at, e),
@@ -117,7 +117,7 @@ pub fn next_reference(s: &[u8], at: usize, end: usize) -> Found
         match names {
             Names::Of(_) => return Found::At(next),
             Names::No => {
-                next = record_end(s, next, form);
+                next = next_at(s, next, form);
             }
         }
     }

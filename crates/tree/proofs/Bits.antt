@@ -1,10 +1,10 @@
 -- The bits of a number, the lowest first.
 --     same-bits-turned   two numbers that share their lowest bits with a third
 --     same-bits-equal    numbers of 16 bits, all of which are the same
-use Prim.Native.Nat.{ℕ, zero, suc, _+_, _*_, _/_, _%_, _^_, _≤_, _<_}
+use Prim.Native.Nat.{ℕ, zero, suc, _+_, _*_, _%_, _^_, _<_}
 use native.Mathlib.Omega.{arith}
 use native.Mathlib.Nat.{mod-lt, div-add-mod, mul-assoc, pow-suc}
-use mathlib.Core.Path.{_≡_, refl, sym, ap, ap₂, subst, _∙_}
+use mathlib.Core.Path.{_≡_, sym, ap, ap₂, subst, _∙_}
 use Rattle.tree.specs.Tree.{upper, SameBits}
 
 -- a bit is 0 or 1

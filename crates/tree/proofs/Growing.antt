@@ -1,6 +1,6 @@
 -- One number more in a tree.
 --     entered-old, -first, -new   x is one of the numbers, the first of all, or one more
---     place-at, place-missing     the place of x, by where the search ends
+--     place-at, place-unfound     the place of x, by where the search ends
 use Prim.Native.Nat.{ℕ, zero, suc, _+_, _*_, _/_, _%_, _≤_, _<_}
 use native.Mathlib.Omega.{arith}
 use native.Mathlib.Decide.{decLt, ℕ-discrete}
@@ -12,17 +12,17 @@ use mathlib.Core.Path.{_≡_, refl, sym, ap, subst, _∙_}
 use lib.ListN.{length, length-set, getD, set}
 use lib.Seq.{getD-set-same, getD-set-other}
 use borrow.Author.Tests.{eq-eqb, ne-eqb}
-use Rattle.tree.specs.Tree.{numberAt, linkAt, onward, seek, upper, SameBits, Deeper, Tree, Extends, Missing, EndOf, PlaceOf, Node, Entered}
+use Rattle.tree.specs.Tree.{numberAt, linkAt, onward, seek, SameBits, OneDeeper, Tree, Extends, Unfound, EndOf, PlaceOf, Node, Entered}
 use Rattle.tree.specs.declared.End.{End}
 use Rattle.tree.specs.declared.End.the-variants.{At, Link}
 use Rattle.tree.proofs.Bits.{bit, same-bits-equal}
-use Rattle.tree.proofs.Seeking.{seek-here, seek-other, same-place}
+use Rattle.tree.proofs.Searching.{seek-here, seek-other, few-steps, same-place}
 
 -- an end that a `match` has taken apart
 pub end-at : (t : List ℕ) (a n x : ℕ) {r : End} {k : ℕ} → r ≡ At k → EndOf t a n x r → (k ≤ n) × (k < n → numberAt t a k ≡ x) × (k ≡ n → n ≡ 0)
 end-at t a n x e g = subst (EndOf t a n x) e g
 
-pub end-link : (t : List ℕ) (a n x : ℕ) {r : End} {p : ℕ} → r ≡ Link p → EndOf t a n x r → Missing t a n x p
+pub end-link : (t : List ℕ) (a n x : ℕ) {r : End} {p : ℕ} → r ≡ Link p → EndOf t a n x r → Unfound t a n x p
 end-link t a n x e g = subst (EndOf t a n x) e g
 
 -- x is put behind n numbers
@@ -66,7 +66,7 @@ module _ {t u : List ℕ} {a n : ℕ} (tree : Tree t a n) (extends : Extends t u
           ∙ ap (onward (λ i. seek u a x (f + e) i (b / 2))) (extends .links k b l (λ z. omega (arith, z, q)) ∙ q)
           ∙ later i there r
         where
-          further : (getD t (linkAt a k b) 0 ≡ 0) ⊎ Deeper t a n (tree .depth) k b → i < n
+          further : (getD t (linkAt a k b) 0 ≡ 0) ⊎ OneDeeper t a n (tree .depth) k b → i < n
           further (inl z) = absurd (omega (arith, z, q))
           further (inr w) = omega (arith, w .here, w .below, q)
 
@@ -77,12 +77,12 @@ module _ {t u : List ℕ} {a n : ℕ} (tree : Tree t a n) (extends : Extends t u
           (λ (c : ¬ (numberAt t a k ≡ x)). on (getD t (linkAt a k b) 0) refl (sym (seek-other t a x f k b c) ∙ p) c later)
 
 -- the link at which a search ended is there
-pub link-room : {t : List ℕ} {a n x p : ℕ} → Tree t a n → Missing t a n x p → p < length t
+pub link-room : {t : List ℕ} {a n x p : ℕ} → Tree t a n → Unfound t a n x p → p < length t
 link-room tree m = omega (arith, tree .within, m .here, m .below, bit (m .bits))
 
 -- a link that stays leads where it did
 deeper-same : {t u : List ℕ} {a n m : ℕ} {depth : ℕ → ℕ} → Extends t u a n → (deep : ℕ → ℕ) → ((i : ℕ) → i < n → deep i ≡ depth i) → n ≤ m → (k b : ℕ) → k < n
-    → getD u (linkAt a k b) 0 ≡ getD t (linkAt a k b) 0 → (getD t (linkAt a k b) 0 ≡ 0) ⊎ Deeper t a n depth k b → (getD u (linkAt a k b) 0 ≡ 0) ⊎ Deeper u a m deep k b
+    → getD u (linkAt a k b) 0 ≡ getD t (linkAt a k b) 0 → (getD t (linkAt a k b) 0 ≡ 0) ⊎ OneDeeper t a n depth k b → (getD u (linkAt a k b) 0 ≡ 0) ⊎ OneDeeper u a m deep k b
 deeper-same extends deep is more k b l e (inl z) = inl (e ∙ z)
 deeper-same extends deep is more k b l e (inr w) =
     inr
@@ -133,7 +133,7 @@ tree-none t a l =
     }
 
 -- x is put as number n where the search for it ended
-module _ {t : List ℕ} {a n x p : ℕ} (tree : Tree t a n) (m : Missing t a n x p) (fits : x < 65536) {u : List ℕ} (w : Node (set t p (n + 1)) a n x u) where
+module _ {t : List ℕ} {a n x p : ℕ} (tree : Tree t a n) (m : Unfound t a n x p) (fits : x < 65536) {u : List ℕ} (w : Node (set t p (n + 1)) a n x u) where
   place : (p < a + 3 * n) × (a ≤ p)
   place = (omega (arith, m .here, m .below, bit (m .bits)), omega (arith, m .here))
 
@@ -150,7 +150,7 @@ module _ {t : List ℕ} {a n x p : ℕ} (tree : Tree t a n) (m : Missing t a n x
   extends =
       record {
         numbers = numbers;
-        links = λ k b l nz. front (linkAt a k b) (omega (arith, bit b)) (λ z. nz (ap (λ i. getD t i 0) z ∙ m .zero));
+        links = λ k b l nz. front (linkAt a k b) (omega (arith, bit b)) (λ z. nz (ap (λ i. getD t i 0) z ∙ m .ends));
       }
 
   -- how deep the numbers are, x one deeper than the number whose link leads to it
@@ -175,7 +175,7 @@ module _ {t : List ℕ} {a n x p : ℕ} (tree : Tree t a n) (m : Missing t a n x
       absurd (m .none (m .owner) (m .below) (same-bits-equal (tree .small (m .owner) (m .below)) fits like)))
 
   -- the link that leads to x
-  link-new : (k b : ℕ) → linkAt a k b ≡ p → Deeper u a (n + 1) depth k b
+  link-new : (k b : ℕ) → linkAt a k b ≡ p → OneDeeper u a (n + 1) depth k b
   link-new k b z =
       let own : k ≡ m .owner = omega (arith, z, m .here, bit b, bit (m .bits)) in
       let same : b % 2 ≡ m .bits % 2 = omega (arith, z, m .here, own) in
@@ -190,7 +190,7 @@ module _ {t : List ℕ} {a n x p : ℕ} (tree : Tree t a n) (m : Missing t a n x
         bit = rw (at, w .here) (ap (_% 2) (m .along tree .0) ∙ sym same);
       }
 
-  links : (k b : ℕ) → k < n + 1 → (getD u (linkAt a k b) 0 ≡ 0) ⊎ Deeper u a (n + 1) depth k b
+  links : (k b : ℕ) → k < n + 1 → (getD u (linkAt a k b) 0 ≡ 0) ⊎ OneDeeper u a (n + 1) depth k b
   links k b l =
       by-cases (decLt k n)
       (λ (c : k < n).
@@ -272,6 +272,7 @@ entered-old {t} {a} {n} {x} {k} tree l e =
 pub place-at : {t : List ℕ} {a n x k : ℕ} → Tree t a n → k ≤ n → (k < n → numberAt t a k ≡ x) → (k ≡ n → n ≡ 0) → PlaceOf t a n x k
 place-at {t} {a} {n} {x} {k} tree l here end =
     record {
+      few = λ some e. few-steps tree x e some;
       within = l;
       here = here;
       only = λ i c e.
@@ -279,5 +280,11 @@ place-at {t} {a} {n} {x} {k} tree l here end =
           (λ (d : ¬ (k < n)). let z : k ≡ n = omega arith in absurd (omega (arith, end z)));
     }
 
-pub place-missing : {t : List ℕ} {a n x p : ℕ} → Missing t a n x p → PlaceOf t a n x n
-place-missing m = record { within = omega arith; here = λ l. absurd (omega arith); only = λ i c e. absurd (m .none i c e) }
+pub place-unfound : {t : List ℕ} {a n x p : ℕ} → Tree t a n → Unfound t a n x p → PlaceOf t a n x n
+place-unfound {x = x} tree m =
+    record {
+      few = λ some e. few-steps tree x e some;
+      within = omega arith;
+      here = λ l. absurd (omega arith);
+      only = λ i c e. absurd (m .none i c e);
+    }

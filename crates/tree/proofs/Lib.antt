@@ -1,3 +1,3 @@
 pub mod Bits
-pub mod Seeking
+pub mod Searching
 pub mod Growing

@@ -42,7 +42,7 @@ SameBits (suc d) x y = SameBits d x y × (upper d x % 2 ≡ upper d y % 2)
 
 -- the link of number k for the lowest bit of b leads to a later number, which is one deeper, has as many of the lowest bits of number k as that is
 -- deep, and then this bit
-pub record Deeper (t : List ℕ) (a n : ℕ) (depth : ℕ → ℕ) (k b : ℕ) : Type 0 where
+pub record OneDeeper (t : List ℕ) (a n : ℕ) (depth : ℕ → ℕ) (k b : ℕ) : Type 0 where
   pub to : ℕ
   pub here : getD t (linkAt a k b) 0 ≡ suc to
   pub later : k < to
@@ -51,15 +51,14 @@ pub record Deeper (t : List ℕ) (a n : ℕ) (depth : ℕ → ℕ) (k b : ℕ) :
   pub same : SameBits (depth k) (numberAt t a k) (numberAt t a to)
   pub bit : upper (depth k) (numberAt t a to) % 2 ≡ b % 2
 
--- n numbers, each of which is found; each link leads nowhere or one deeper, and none of them is deeper than 16, so that no search takes more than
--- 17 steps
+-- n numbers, each of which is found; each link leads nowhere or one deeper, and no number stands deeper than 16 links
 pub record Tree (t : List ℕ) (a n : ℕ) : Type 0 where
   pub within : a + 3 * n ≤ length t
   pub small : (k : ℕ) → k < n → numberAt t a k < 65536
   pub depth : ℕ → ℕ
   pub root : depth 0 ≡ 0
   pub low : (k : ℕ) → k < n → depth k ≤ 16
-  pub links : (k b : ℕ) → k < n → (getD t (linkAt a k b) 0 ≡ 0) ⊎ Deeper t a n depth k b
+  pub links : (k b : ℕ) → k < n → (getD t (linkAt a k b) 0 ≡ 0) ⊎ OneDeeper t a n depth k b
   pub found : (k : ℕ) → k < n → seek t a (numberAt t a k) n 0 (numberAt t a k) ≡ suc k
 
 -- the numbers and the links of n numbers are as in t, but for links that lead nowhere there
@@ -68,12 +67,12 @@ pub record Extends (t u : List ℕ) (a n : ℕ) : Type 0 where
   pub links : (k b : ℕ) → k < n → (getD t (linkAt a k b) 0 ≡ 0 → ⊥) → getD u (linkAt a k b) 0 ≡ getD t (linkAt a k b) 0
 
 -- x is none of the n numbers; the search for it ends at the link at p, and finds it once that leads to it as number n
-pub record Missing (t : List ℕ) (a n x p : ℕ) : Type 0 where
+pub record Unfound (t : List ℕ) (a n x p : ℕ) : Type 0 where
   pub owner : ℕ
   pub bits : ℕ
   pub below : owner < n
   pub here : p ≡ linkAt a owner bits
-  pub zero : getD t p 0 ≡ 0
+  pub ends : getD t p 0 ≡ 0
   pub none : (k : ℕ) → k < n → numberAt t a k ≡ x → ⊥
   pub along : (tree : Tree t a n) → (upper (tree .depth owner) x ≡ bits) × SameBits (tree .depth owner) (numberAt t a owner) x
   pub new : (u : List ℕ) → Extends t u a n → getD u p 0 ≡ suc n → numberAt u a n ≡ x → seek u a x (n + 1) 0 x ≡ suc n
@@ -81,10 +80,11 @@ pub record Missing (t : List ℕ) (a n x p : ℕ) : Type 0 where
 -- where the search for x ends: at a number, or at n where there are none; or at a link
 abbrev pub EndOf : List ℕ → ℕ → ℕ → ℕ → End → Type 0
 EndOf t a n x (At k) = (k ≤ n) × (k < n → numberAt t a k ≡ x) × (k ≡ n → n ≡ 0)
-EndOf t a n x (Link p) = Missing t a n x p
+EndOf t a n x (Link p) = Unfound t a n x p
 
--- r is the place of x among the n numbers, or n where x is none of them
+-- r is the place of x among the n numbers, or n where x is none of them; a search for x ends within 17 steps
 pub record PlaceOf (t : List ℕ) (a n x r : ℕ) : Type 0 where
+  pub few : 0 < n → (e : ℕ) → seek t a x (17 + e) 0 x ≡ seek t a x 17 0 x
   pub within : r ≤ n
   pub here : r < n → numberAt t a r ≡ x
   pub only : (k : ℕ) → k < n → numberAt t a k ≡ x → k ≡ r

@@ -1,10 +1,9 @@
 -- `field_index::note_constants` meets its contract: the invariant is `Marking`.
-use Prim.Native.Nat.{_+_, _-_}
+use Prim.Native.Nat.{_-_}
 use native.Mathlib.Omega.{arith}
-use mathlib.Core.Path.{sym, _∙_}
 use borrow.Author.Needs.{needs}
 use Rattle.bundle.proofs.LookupLaws.{placed-at}
-use Rattle.field_index.proofs.Constants.{Marking, constants-start, constants-small, constants-next, constants-end}
+use Rattle.field_index.proofs.Constants.{Marking, constants-start, constants-next, constants-end}
 use Rattle.field_index.proofs.note_constants.Statement.{statement}
 use Rattle.field_index.proofs.note_constants.Tie as tie
 

@@ -34,14 +34,14 @@ returns c = sym (ap foundOf (sym (c .before .before .before .before .before .bef
 enum-told-2 : tie.Need-enum-told-2 Inv-loop μ-loop
 enum-told-2 c = search needs
 
-record-end-requires : tie.Need-record-end-requires Inv-loop μ-loop
-record-end-requires c κs = search needs
+next-at-requires : tie.Need-next-at-requires Inv-loop μ-loop
+next-at-requires c κs = search needs
 
 loop-less : tie.Need-loop-less Inv-loop μ-loop
-loop-less c = step-less _ _ _ _ (c .before .before .before .before .form-of .ensures) (c .before .before .before .before .before .before .loop-test .taken) _ (c .record-end .ensures)
+loop-less c = step-less _ _ _ _ (c .before .before .before .before .form-of .ensures) (c .before .before .before .before .before .before .loop-test .taken) _ (c .next-at .ensures)
 
 loop-again : tie.Need-loop-again Inv-loop μ-loop
-loop-again c = step-other _ _ _ _ (c .before .before .before .before .form-of .ensures) (c .before .before .before .before .before .before .loop-test .taken) _ (c .record-end .ensures) (sym (c .before .enum-told2 .given .1) ∙ c .before .before .before .names-in .ensures) ∙ c .before .before .before .before .before .before .before .loop .inv
+loop-again c = step-other _ _ _ _ (c .before .before .before .before .form-of .ensures) (c .before .before .before .before .before .before .loop-test .taken) _ (c .next-at .ensures) (sym (c .before .enum-told2 .given .1) ∙ c .before .before .before .names-in .ensures) ∙ c .before .before .before .before .before .before .before .loop .inv
 
 returns-2 : tie.Need-returns-2 Inv-loop μ-loop
 returns-2 c = sym (ap foundOf (sym (c .before .loop .inv)) ∙ step-none _ _ _ (c .loop-test .left))
@@ -59,7 +59,7 @@ next-reference-spec =
     enum-told
     returns
     enum-told-2
-    record-end-requires
+    next-at-requires
     loop-less
     loop-again
     returns-2)

@@ -5,7 +5,7 @@ use Rattle.sizes.proofs.type_end.Tie as tie
 use mathlib.Core.Path.{sym, _∙_}
 use Rattle.bundle.specs.View.{typeFormMeant}
 use Rattle.scan.specs.Scan.{recordLength, isSizeUnion}
-use Rattle.sizes.specs.Scan.{recordEnd}
+use Rattle.sizes.specs.Scan.{nextAt}
 use Rattle.sizes.proofs.ScanLaws.{union-next, union-refused}
 
 enum-told : tie.Need-enum-told
@@ -60,27 +60,27 @@ add-result-7 : tie.Need-add-result-7
 add-result-7 c = search needs
 
 returns : tie.Need-returns
-unfolding typeFormMeant recordEnd recordLength isSizeUnion
+unfolding typeFormMeant nextAt recordLength isSizeUnion
 returns c = rw (c .enum-told .given .1)
 
 returns-2 : tie.Need-returns-2
-unfolding typeFormMeant recordEnd recordLength isSizeUnion
+unfolding typeFormMeant nextAt recordLength isSizeUnion
 returns-2 c = rw (c .enum-told2 .given .1)
 
 returns-3 : tie.Need-returns-3
-unfolding typeFormMeant recordEnd recordLength isSizeUnion
+unfolding typeFormMeant nextAt recordLength isSizeUnion
 returns-3 c = rw (c .enum-told3 .given .1)
 
 returns-4 : tie.Need-returns-4
-unfolding typeFormMeant recordEnd recordLength isSizeUnion
+unfolding typeFormMeant nextAt recordLength isSizeUnion
 returns-4 c = rw (c .enum-told4 .given .1)
 
 returns-5 : tie.Need-returns-5
-unfolding typeFormMeant recordEnd recordLength isSizeUnion
+unfolding typeFormMeant nextAt recordLength isSizeUnion
 returns-5 c = rw (c .enum-told5 .given .1)
 
 returns-6 : tie.Need-returns-6
-unfolding typeFormMeant recordEnd recordLength isSizeUnion
+unfolding typeFormMeant nextAt recordLength isSizeUnion
 returns-6 c = rw (c .enum-told6 .given .1)
 
 returns-7 : tie.Need-returns-7

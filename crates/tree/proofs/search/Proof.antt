@@ -1,21 +1,20 @@
--- `tree::search` meets its contract: the invariant is `Seeking`.
+-- `tree::search` meets its contract: the invariant is `Searching`.
 use Prim.Native.Nat.{_+_, _-_, _*_, _%_}
 use mathlib.Core.Path.{refl}
 use native.Mathlib.Omega.{arith}
 use borrow.Author.Needs.{needs}
-use Rattle.tree.proofs.Seeking.{Seeking, seeking-start, link-later, seeking-next, seeking-missing}
-use Rattle.tree.proofs.Bits.{bit}
+use Rattle.tree.proofs.Searching.{Searching, searching-start, link-later, searching-next, searching-unfound}
 use Rattle.tree.proofs.search.Statement.{statement}
 use Rattle.tree.proofs.search.Tie as tie
 
 abbrev Inv-loop : tie.InvT-loop
-Inv-loop t base n x k₀ bits₀ k bits = Seeking t base n x k bits
+Inv-loop t base n x k₀ bits₀ k bits = Searching t base n x k bits
 
 abbrev μ-loop : tie.MeasureT-loop
 μ-loop t base n x k₀ bits₀ k bits = n - k
 
 loop-holds : tie.Need-loop-holds Inv-loop μ-loop
-loop-holds c = seeking-start _ _ _ _
+loop-holds c = searching-start _ _ _ _
 
 mul-at : tie.Need-mul-at Inv-loop μ-loop
 mul-at c = search needs
@@ -51,7 +50,7 @@ cast-next : tie.Need-cast-next Inv-loop μ-loop
 cast-next c = omega (arith, c .shared-slice-known2 .given (c .before .before .before .before .before .args .base + 3 * c .before .before .before .before .loop .k + 1 + c .before .before .before .before .loop .bits % 2))
 
 returns-2 : tie.Need-returns-2 Inv-loop μ-loop
-returns-2 c = seeking-missing (c .before .before .before .before .before .loop .inv) (c .before .before .before .before .before .before .pre) (omega arith) (c .before .before .if1 .left) (c .if2 .taken)
+returns-2 c = searching-unfound (c .before .before .before .before .before .loop .inv) (c .before .before .before .before .before .before .pre) (omega arith) (c .before .before .if1 .left) (c .if2 .taken)
 
 sub-k : tie.Need-sub-k Inv-loop μ-loop
 sub-k c = search needs
@@ -60,7 +59,7 @@ loop-less : tie.Need-loop-less Inv-loop μ-loop
 loop-less c = omega (arith, link-later (c .before .before .before .before .before .loop .inv) (c .before .before .before .before .before .before .pre) (omega arith) (c .before .before .if1 .left) refl (c .if2 .left) .0, link-later (c .before .before .before .before .before .loop .inv) (c .before .before .before .before .before .before .pre) (omega arith) (c .before .before .if1 .left) refl (c .if2 .left) .1)
 
 loop-again : tie.Need-loop-again Inv-loop μ-loop
-loop-again c = seeking-next (c .before .before .before .before .before .loop .inv) (c .before .before .before .before .before .before .pre) (omega arith) (c .before .before .if1 .left) refl (c .if2 .left)
+loop-again c = searching-next (c .before .before .before .before .before .loop .inv) (c .before .before .before .before .before .before .pre) (omega arith) (c .before .before .if1 .left) refl (c .if2 .left)
 
 returns-3 : tie.Need-returns-3 Inv-loop μ-loop
 returns-3 c = (omega arith, λ l. absurd (omega arith), λ _. c .before .loop .inv .below (omega (arith, c .before .loop .inv .bound)))

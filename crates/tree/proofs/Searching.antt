@@ -1,14 +1,15 @@
 -- The search for a number by its bits.
---     seeking-start, -next, -missing   the loop of the search
+--     searching-start, -next, -missing   the loop of the search
 --     place-end                        what its end says of the place
 use Prim.Native.Nat.{ℕ, zero, suc, _+_, _-_, _/_, _%_, _≤_, _<_}
 use native.Mathlib.Omega.{arith}
+use native.Mathlib.Decide.{ℕ-discrete}
 use mathlib.Core.List.{List}
-use mathlib.Core.Logic.{_⊎_, inl, inr}
+use mathlib.Core.Logic.{_⊎_, inl, inr, by-cases}
 use mathlib.Core.Path.{_≡_, refl, sym, ap, subst, _∙_}
 use lib.ListN.{getD}
 use borrow.Author.Tests.{eq-eqb, ne-eqb}
-use Rattle.tree.specs.Tree.{numberAt, linkAt, onward, seek, upper, SameBits, Deeper, Tree, Extends, Missing}
+use Rattle.tree.specs.Tree.{numberAt, linkAt, onward, seek, upper, SameBits, OneDeeper, Tree, Extends, Unfound}
 use Rattle.tree.proofs.Bits.{same-bits-turned}
 
 -- one step
@@ -25,7 +26,7 @@ extends-self : (t : List ℕ) (a n : ℕ) → Extends t t a n
 extends-self t a n = record { numbers = λ k l. refl; links = λ k b l ne. refl }
 
 -- after some steps the search for x is at number k, with the bits b left
-pub record Seeking (t : List ℕ) (a n x k b : ℕ) : Type 0 where
+pub record Searching (t : List ℕ) (a n x k b : ℕ) : Type 0 where
   pub steps : ℕ
   pub few : steps ≤ k
   pub bound : k ≤ n
@@ -33,8 +34,8 @@ pub record Seeking (t : List ℕ) (a n x k b : ℕ) : Type 0 where
   pub along : (tree : Tree t a n) → (upper (tree .depth k) x ≡ b) × SameBits (tree .depth k) (numberAt t a k) x
   pub same : (u : List ℕ) → Extends t u a n → (f : ℕ) → seek u a x (steps + f) 0 x ≡ seek u a x f k b
 
-pub seeking-start : (t : List ℕ) (a n x : ℕ) → Seeking t a n x 0 x
-seeking-start t a n x =
+pub searching-start : (t : List ℕ) (a n x : ℕ) → Searching t a n x 0 x
+searching-start t a n x =
     record {
       steps = 0;
       few = omega arith;
@@ -44,7 +45,7 @@ seeking-start t a n x =
       same = λ u k f. let q : 0 + f ≡ f = omega arith in ap (λ g. seek u a x g 0 x) q;
     }
 
-module _ {t : List ℕ} {a n x k b : ℕ} (o : Seeking t a n x k b) (tree : Tree t a n) (l : k < n) (ne : numberAt t a k ≡ x → ⊥) where
+module _ {t : List ℕ} {a n x k b : ℕ} (o : Searching t a n x k b) (tree : Tree t a n) (l : k < n) (ne : numberAt t a k ≡ x → ⊥) where
   -- where another search goes from here
   from-here : (u : List ℕ) → Extends t u a n → (f : ℕ) → seek u a x (o .steps + suc f) 0 x ≡ onward (λ j. seek u a x f j (b / 2)) (getD u (linkAt a k b) 0)
   from-here u extends f = o .same u extends (suc f) ∙ seek-other u a x f k b (λ e. ne (sym (extends .numbers k l) ∙ e))
@@ -52,7 +53,7 @@ module _ {t : List ℕ} {a n x k b : ℕ} (o : Seeking t a n x k b) (tree : Tree
   pub link-later : {next : ℕ} → getD t (linkAt a k b) 0 ≡ next → (next ≡ 0 → ⊥) → (suc k < next) × (next ≤ n)
   link-later {next} e nz = go (tree .links k b l)
     where
-      go : (getD t (linkAt a k b) 0 ≡ 0) ⊎ Deeper t a n (tree .depth) k b → (suc k < next) × (next ≤ n)
+      go : (getD t (linkAt a k b) 0 ≡ 0) ⊎ OneDeeper t a n (tree .depth) k b → (suc k < next) × (next ≤ n)
       go (inl z) = absurd (nz (sym e ∙ z))
       go (inr q) = (omega (arith, q .here, q .later, e), omega (arith, q .here, q .below, e))
 
@@ -61,15 +62,15 @@ module _ {t : List ℕ} {a n x k b : ℕ} (o : Seeking t a n x k b) (tree : Tree
       → (upper (any .depth (next - 1)) x ≡ b / 2) × SameBits (any .depth (next - 1)) (numberAt t a (next - 1)) x
   along-next {next} e nz any = go (any .links k b l)
     where
-      go : (getD t (linkAt a k b) 0 ≡ 0) ⊎ Deeper t a n (any .depth) k b → (upper (any .depth (next - 1)) x ≡ b / 2) × SameBits (any .depth (next - 1)) (numberAt t a (next - 1)) x
+      go : (getD t (linkAt a k b) 0 ≡ 0) ⊎ OneDeeper t a n (any .depth) k b → (upper (any .depth (next - 1)) x ≡ b / 2) × SameBits (any .depth (next - 1)) (numberAt t a (next - 1)) x
       go (inl z) = absurd (nz (sym e ∙ z))
       go (inr q) =
           let is : next - 1 ≡ q .to = omega (arith, q .here, e) in
           let h = o .along any in
           rw (is, q .down) (ap (_/ 2) (h .0), (same-bits-turned (any .depth k) (numberAt t a k) x (numberAt t a (q .to)) (q .same) (h .1), q .bit ∙ sym (ap (_% 2) (h .0))))
 
-  pub seeking-next : {next : ℕ} → getD t (linkAt a k b) 0 ≡ next → (next ≡ 0 → ⊥) → Seeking t a n x (next - 1) (b / 2)
-  seeking-next {next} e nz =
+  pub searching-next : {next : ℕ} → getD t (linkAt a k b) 0 ≡ next → (next ≡ 0 → ⊥) → Searching t a n x (next - 1) (b / 2)
+  searching-next {next} e nz =
       let q = link-later e nz in
       record {
         steps = suc (o .steps);
@@ -83,14 +84,14 @@ module _ {t : List ℕ} {a n x k b : ℕ} (o : Seeking t a n x k b) (tree : Tree
             ap (λ g. seek u a x g 0 x) more ∙ from-here u extends f ∙ ap (onward (λ j. seek u a x f j (b / 2))) on;
       }
 
-  pub seeking-missing : getD t (linkAt a k b) 0 ≡ 0 → Missing t a n x (linkAt a k b)
-  seeking-missing z =
+  pub searching-unfound : getD t (linkAt a k b) 0 ≡ 0 → Unfound t a n x (linkAt a k b)
+  searching-unfound z =
       record {
         owner = k;
         bits = b;
         below = l;
         here = refl;
-        zero = z;
+        ends = z;
         none = λ j c e.
             let all : n ≡ o .steps + suc (n - 1 - o .steps) = omega (arith, o .few) in
             let is : seek t a x n 0 x ≡ suc j = subst (λ y. seek t a y n 0 y ≡ suc j) e (tree .found j c) in
@@ -104,6 +105,28 @@ module _ {t : List ℕ} {a n x k b : ℕ} (o : Seeking t a n x k b) (tree : Tree
             let all : n + 1 ≡ o .steps + suc (suc f) = omega (arith, o .few) in
             ap (λ g. seek u a x g 0 x) all ∙ from-here u extends (suc f) ∙ ap (onward (λ i. seek u a x (suc f) i (b / 2))) at ∙ seek-here u a x f n (b / 2) here;
       }
+
+-- a search that starts where so many steps may be left ends within them
+module _ {t : List ℕ} {a n : ℕ} (tree : Tree t a n) (x e : ℕ) where
+  enough : (f k b : ℕ) → k < n → 17 ≤ f + tree .depth k → seek t a x (f + e) k b ≡ seek t a x f k b
+  enough zero k b l h = absurd (omega (arith, h, tree .low k l))
+  enough (suc f) k b l h =
+      let more : suc f + e ≡ suc (f + e) = omega arith in
+      ap (λ g. seek t a x g k b) more ∙ go (λ i c d. enough f i (b / 2) c d)
+    where
+      go : ((i : ℕ) → i < n → 17 ≤ f + tree .depth i → seek t a x (f + e) i (b / 2) ≡ seek t a x f i (b / 2)) → seek t a x (suc (f + e)) k b ≡ seek t a x (suc f) k b
+      go later =
+          by-cases (ℕ-discrete (numberAt t a k) x)
+          (λ (c : numberAt t a k ≡ x). seek-here t a x (f + e) k b c ∙ sym (seek-here t a x f k b c))
+          (λ (c : ¬ (numberAt t a k ≡ x)). seek-other t a x (f + e) k b c ∙ on (tree .links k b l) ∙ sym (seek-other t a x f k b c))
+        where
+          on : (getD t (linkAt a k b) 0 ≡ 0) ⊎ OneDeeper t a n (tree .depth) k b
+              → onward (λ j. seek t a x (f + e) j (b / 2)) (getD t (linkAt a k b) 0) ≡ onward (λ j. seek t a x f j (b / 2)) (getD t (linkAt a k b) 0)
+          on (inl z) = rw z refl
+          on (inr w) = rw (w .here) (later (w .to) (w .below) (omega (arith, h, w .down)))
+
+  pub few-steps : 0 < n → seek t a x (17 + e) 0 x ≡ seek t a x 17 0 x
+  few-steps l = enough 17 0 x l (omega arith)
 
 -- two places of one number are the same
 pub same-place : {t : List ℕ} {a n : ℕ} → Tree t a n → (i j : ℕ) → i < n → j < n → numberAt t a i ≡ numberAt t a j → i ≡ j

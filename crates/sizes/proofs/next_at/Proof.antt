@@ -1,11 +1,11 @@
--- `sizes::record_end` meets its contract: each form has its own length.
+-- `sizes::next_at` meets its contract: each form has its own length.
 use native.Mathlib.Omega.{arith}
 use borrow.Author.Needs.{needs}
-use Rattle.sizes.proofs.record_end.Statement.{statement}
-use Rattle.sizes.proofs.record_end.Tie as tie
+use Rattle.sizes.proofs.next_at.Statement.{statement}
+use Rattle.sizes.proofs.next_at.Tie as tie
 use Rattle.bundle.specs.View.{formMeant}
 use Rattle.scan.specs.Scan.{recordLength, isSizeUnion}
-use Rattle.sizes.specs.Scan.{recordEnd}
+use Rattle.sizes.specs.Scan.{nextAt}
 
 enum-known-form : tie.Need-enum-known-form
 enum-known-form c = search needs
@@ -44,7 +44,7 @@ add-result-4 : tie.Need-add-result-4
 add-result-4 c = search needs
 
 returns : tie.Need-returns
-unfolding formMeant recordEnd isSizeUnion
+unfolding formMeant nextAt isSizeUnion
 returns c = rw (c .before .before .form .given .1) (c .expr-end .ensures)
 
 returns-2 : tie.Need-returns-2
@@ -52,19 +52,19 @@ unfolding formMeant
 returns-2 c = rw (c .before .before .form2 .given .1) (c .type-end .ensures)
 
 returns-3 : tie.Need-returns-3
-unfolding formMeant recordEnd recordLength isSizeUnion
+unfolding formMeant nextAt recordLength isSizeUnion
 returns-3 c = rw (c .before .form3 .given .1) (omega arith)
 
 returns-4 : tie.Need-returns-4
-unfolding formMeant recordEnd recordLength isSizeUnion
+unfolding formMeant nextAt recordLength isSizeUnion
 returns-4 c = rw (c .enum-told .given .1)
 
 returns-5 : tie.Need-returns-5
-unfolding formMeant recordEnd recordLength isSizeUnion
+unfolding formMeant nextAt recordLength isSizeUnion
 returns-5 c = rw (c .enum-told2 .given .1)
 
-pub record-end-spec : {M : Type 1} → statement M
-record-end-spec =
+pub next-at-spec : {M : Type 1} → statement M
+next-at-spec =
     tie.close
     (tie.spec
     enum-known-form
