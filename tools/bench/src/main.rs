@@ -36,7 +36,7 @@ const WORST: [Row; 6] = [
 ];
 
 /// Bundles in which a check could multiply one count by another.
-const SHAPES: [Row; 26] = [
+const SHAPES: [Row; 28] = [
     ("a plausible record, 1,200 fields", shapes::plausible),
     ("800 fields x a missing field", shapes::some_missing),
     ("fields x a missing field", shapes::missing_field),
@@ -72,6 +72,8 @@ const SHAPES: [Row; 26] = [
     ("enums of one name, one long tag", shapes::one_long_tag),
     ("one tag x one bucket", shapes::one_tag_one_bucket),
     ("one long tag asked 250 times", shapes::one_tag_asked_often),
+    ("one tag x full buckets", shapes::one_tag_full_buckets),
+    ("one tag x a field 16 deep", shapes::one_tag_deep_field),
 ];
 
 /// The bundles that a request named, each with the bytes that it gave.

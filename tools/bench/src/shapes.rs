@@ -284,6 +284,47 @@ pub fn one_tag_one_bucket(bytes: usize) -> Bundle {
     })
 }
 
+/// A tag with references to a name that has no definition, where the names of the
+/// definitions and edges are equal modulo 256.
+pub fn one_tag_full_buckets(bytes: usize) -> Bundle {
+    let equal = |number: usize| 0x37 + 256 * number as Name;
+    let edge = |number: usize| Edge {
+        from: equal(2 * number),
+        to: equal(2 * number + 1),
+        kind: 0,
+    };
+    let edges: Vec<Edge> = (0..127).map(edge).collect();
+    largest(bytes, &|count| {
+        let tag = sum(count, &|number| own(equal(number % 256)));
+        let mut list = vec![define(equal(254), enumeration(tag, Vec::new()))];
+        list.extend((0..254).map(|number| define(equal(number), U8)));
+        Bundle {
+            current: equal(255),
+            edges: edges.clone(),
+            ..bundle(list)
+        }
+    })
+}
+
+/// A tag with references to a field whose name agrees with that of field k of the
+/// struct in k low bits, for each k below 16.
+pub fn one_tag_deep_field(bytes: usize) -> Bundle {
+    const DEEP: Name = 0x5555;
+    let above = |bit: u32| DEEP & ((1 << bit) - 1) | !DEEP & (1 << bit);
+    largest(bytes, &|count| {
+        let mut list: Vec<(Name, Type)> = (0..16).map(|bit| (above(bit), U8)).collect();
+        list.push((DEEP, U8));
+        list.push((OTHER, Type::TypeRef(TARGET)));
+        bundle(vec![
+            define(OWNER, structure(list)),
+            define(
+                TARGET,
+                enumeration(sum(count, &|_| own(DEEP)), variants(2, U16)),
+            ),
+        ])
+    })
+}
+
 /// Many enums of one name without variants, the first with a long tag; 42 of the others
 /// are violations, so that the report is worked out twice.
 pub fn one_tag_asked_often(bytes: usize) -> Bundle {
