@@ -27,9 +27,9 @@ enum { ARRAY, STRUCT, UNION, ENUM, SIZED_UNION, KINDS };
 static const char *const kind_names[] = {"array", "struct", "union", "enum", "sized union"};
 
 /* What the first definition is. */
-enum { NOTHING, FIXED_ARRAY, JAGGED_ARRAY, TAGGED, HOLDER, STARTS };
+enum { NOTHING, FIXED_ARRAY, JAGGED_ARRAY, TAGGED, HOLDER, TWICE, STARTS };
 static const char *const start_names[] = {"nothing first", "an array first", "a jagged array first", "an enum first",
-                                          "a struct first"};
+                                          "a struct first", "a name of two definitions first"};
 
 static uint8_t bytes[LAYOUT_BYTE_LIMIT + 1024];
 static size_t length;
@@ -85,8 +85,19 @@ static void put_reference(unsigned owner, unsigned field) {
   put(field, 2);
 }
 
-/* The first definitions, of which the last leads to `next`; how many they are. */
-static unsigned put_start(int start, unsigned next) {
+/* What differs between the bundles. */
+struct shape {
+  int start;
+  int outside;
+  int inside;
+  int levels;
+  unsigned edges;
+  size_t limit;
+};
+
+/* The first definitions, of which one leads to `next`; how many they are. */
+static unsigned put_start(const struct shape *shape, unsigned next) {
+  int start = shape->start;
   if (start == NOTHING) {
     return 0;
   }
@@ -99,6 +110,19 @@ static unsigned put_start(int start, unsigned next) {
     put(3, 1);
     put_type_ref(next);
     return 1;
+  }
+  if (start == TWICE) {
+    /* The second is an enum whose reference asks about the first. */
+    put_around(shape->outside);
+    put_type_ref(next);
+    put(0x61, 1);
+    put(1, 2);
+    put_head(0x43);
+    put(1, 2);
+    put_reference(900, 1);
+    put_member(0x52, 7, 1);
+    put(0x30, 1);
+    return 2;
   }
   put_head(start == TAGGED ? 0x43 : 0x41);
   if (start == TAGGED) {
@@ -128,16 +152,6 @@ static unsigned put_start(int start, unsigned next) {
   return 2;
 }
 
-/* What differs between the bundles. */
-struct shape {
-  int start;
-  int outside;
-  int inside;
-  int levels;
-  unsigned edges;
-  size_t limit;
-};
-
 /* The bytes of one definition of a line. */
 static void put_definition(const struct shape *shape, unsigned name) {
   int level;
@@ -152,17 +166,18 @@ static void put_definition(const struct shape *shape, unsigned name) {
 
 /* A line of as many definitions as there can be; the last leads to a name without definition. */
 static void make_bundle(const struct shape *shape) {
-  unsigned definitions, edge;
+  unsigned definitions, first, edge;
   size_t before = 0;
   length = 0;
   put(0x60, 1);
   put(0, 2);
   put(shape->edges, 2);
   put(0, 2);
-  definitions = put_start(shape->start, 10);
+  definitions = put_start(shape, 10);
+  first = definitions;
   while (definitions < LAYOUT_DEFINITION_LIMIT) {
     before = length;
-    put_definition(shape, 10 + definitions - (shape->start == NOTHING ? 0 : shape->start == HOLDER ? 2 : 1));
+    put_definition(shape, 10 + definitions - first);
     if (length + 6 * shape->edges > shape->limit) {
       length = before;
       break;
