@@ -1,8 +1,7 @@
 -- One field more is noted.
---     members-same   the members of a table stay where its places do
 --     noted-more     one field more, once its name is entered and its index is written
 --     noted-old, -new   the same for a name that fields before have, and for a new one
-use Prim.Native.Nat.{ℕ, _+_, _-_, _*_, _%_, _≤_, _<_}
+use Prim.Native.Nat.{ℕ, _+_, _*_, _≤_, _<_}
 use mathlib.Core.Path.{_≡_, refl, sym, ap, subst, _∙_}
 use mathlib.Core.Logic.{by-cases, _≢_}
 use mathlib.Core.List.{List}
@@ -12,38 +11,11 @@ use borrow.Author.Tests.{eq-eqb, ne-eqb}
 use lib.ListN.{length, length-set, getD, set}
 use lib.Seq.{getD-set-same, getD-set-other}
 use Rattle.meaning.specs.Tree.{Member}
-use Rattle.table.specs.Table.{member, Last, Members, grown, Within}
+use Rattle.table.specs.Table.{grown, Within}
 use Rattle.tree.specs.Tree.{numberAt, Tree, Entered}
 use Rattle.tree.proofs.Searching.{same-place}
 use Rattle.tree.proofs.Growing.{tree-same}
 use Rattle.field_index.specs.Noted.{fieldName, treeAt, IsFirst, IsLast, HasName, NotedTo}
-
--- the places of a table of n members with b buckets hold the same
-abbrev pub Same : List ℕ → List ℕ → ℕ → ℕ → ℕ → Type 0
-Same t u a b n = (i : ℕ) → a ≤ i → i < a + b + 2 * n → getD u i 0 ≡ getD t i 0
-
-module _ {t : List ℕ} (u : List ℕ) {a b n : ℕ} (m : Members t a b n) (same : Same t u a b n) where
-  member-same : (k : ℕ) → k < n → member u a b k ≡ member t a b k
-  member-same k l = same (a + b + 2 * k) (omega arith) (omega arith)
-
-  bucket-same : {k h v : ℕ} → k ≤ n → Last t a b k h v → Last u a b k h v
-  bucket-same {v = v} l o =
-      record {
-        within = o .within;
-        here = λ c. ap (λ y. y % b) (member-same (v - 1) (omega (arith, o .within))) ∙ o .here c;
-        none = λ j c d is. o .none j c d (ap (λ y. y % b) (sym (member-same j (omega arith))) ∙ is);
-      }
-
-  pub members-same : length t ≤ length u → Members u a b n
-  members-same l =
-      record {
-        buckets = m .buckets;
-        within = omega (arith, m .within);
-        apart = λ i j c d e. m .apart i j c d (sym (member-same i (omega arith)) ∙ e ∙ member-same j d);
-        heads = λ h c. rw (same (a + h) (omega arith) (omega arith)) (bucket-same (omega arith) (m .heads h c));
-        links = λ k c.
-            rw (member-same k c, same (a + b + 2 * k + 1) (omega arith) (omega arith)) (bucket-same (omega arith) (m .links k c));
-      }
 
 -- the places of a tree of n numbers hold the same
 abbrev pub SameTree : List ℕ → List ℕ → ℕ → ℕ → Type 0
@@ -160,8 +132,8 @@ module _ {t v : List ℕ} {x : ℕ} (a n d r k : ℕ) (e : Entered t (treeAt a n
   last-same : (i : ℕ) → (i ≡ a + 2 + n + r → ⊥) → i < treeAt a n → getD last i 0 ≡ getD t i 0
   last-same i ne l = getD-set-other v (a + 2 + n + r) i k 0 ne ∙ e .only .before i l
 
-  last-table : SameTree v last (treeAt a n) (grown d r)
-  last-table i l m = getD-set-other v (a + 2 + n + r) i k 0 (λ z. omega (arith, z, e .within))
+  last-tree : SameTree v last (treeAt a n) (grown d r)
+  last-tree i l m = getD-set-other v (a + 2 + n + r) i k 0 (λ z. omega (arith, z, e .within))
 
   last-within : Within (a + 2) (a + 2 + 5 * n) t last
   last-within =
@@ -178,7 +150,7 @@ module _ {t v : List ℕ} {x : ℕ} (a n d r k : ℕ) (e : Entered t (treeAt a n
   noted-old l =
       let g : grown d r ≡ d = rw (ne-eqb r d (omega arith)) refl in (
         λ ms o is. subst (λ D. NotedTo ms last a n D (k + 1)) g
-            (noted-more last e last-table (omega (arith, last-long, e .only .size))
+            (noted-more last e last-tree (omega (arith, last-long, e .only .size))
             (record {
               first-old = λ q c. last-same (a + 2 + q) (λ z. omega (arith, z)) (omega arith);
               first-new = λ z. absurd (omega arith);
@@ -200,7 +172,7 @@ module _ {t v : List ℕ} {x : ℕ} (a n d r k : ℕ) (e : Entered t (treeAt a n
       let z : r ≡ d = omega (arith, e .within) in
       let g : grown d r ≡ d + 1 = rw (eq-eqb r d z) refl in (
         λ ms o is. subst (λ D. NotedTo ms both a n D (k + 1)) g
-            (noted-more both e (λ i c m. both-other i (λ y. omega (arith, y, e .within)) ∙ last-table i c m)
+            (noted-more both e (λ i c m. both-other i (λ y. omega (arith, y, e .within)) ∙ last-tree i c m)
             (omega (arith, length-set last (a + 2 + r) k, last-long, e .only .size))
             (record {
               first-old = λ q c. both-other (a + 2 + q) (λ y. omega (arith, y, z)) ∙ last-same (a + 2 + q) (λ y. omega (arith, y)) (omega arith);

@@ -27,8 +27,8 @@ use Rattle.fields.proofs.Shape.{the-type}
 use Rattle.fields.proofs.ShapeLaws.{shape-other}
 use Rattle.fields.specs.Shapes.{StructAt, ShapeOf}
 use Rattle.table.specs.Table.{Within}
+use Rattle.table.proofs.Buckets.{members-same}
 use Rattle.field_index.specs.Noted.{startsAt, partsAt, partStart, NotedPart, NotedFor, leadsOf, LeadsTo, structFields, fieldsAt, referencesOf, referencesTo, endBefore, NotedBelow, Front}
-use Rattle.field_index.proofs.Noting.{members-same}
 use Rattle.field_index.proofs.Walking.{fields, for-same, leads-same}
 use Rattle.field_index.proofs.Widths.{place-next, struct-wide}
 

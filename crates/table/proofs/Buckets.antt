@@ -7,6 +7,7 @@
 --     found                    a member where x stands is the place of x
 --     put-members              one member more
 --     entered-old, -new        what `enter` leaves
+--     members-same             the members stay where the places do
 use Prim.Native.Nat.{ℕ, _+_, _-_, _*_, _%_, _≤_, _<_}
 use mathlib.Core.Path.{_≡_, refl, sym, ap, _∙_}
 use mathlib.Core.Logic.{by-cases}
@@ -195,3 +196,27 @@ module _ {t : List ℕ} {a b n : ℕ} (x : ℕ) (m : Members t a b n) where
 
   pub entered-old : {r : ℕ} → PlaceOf t a b n x r → r < n → Entered t a b n x r t
   entered-old {r} p l = record { within = p .within; all = rw (ne-eqb r n (omega arith)) m; here = p .here l; old = λ i c. refl; only = record { size = refl; before = λ i c. refl; behind = λ i c. refl } }
+
+-- a table stays where its places do
+module _ {t : List ℕ} (u : List ℕ) {a b n : ℕ} (m : Members t a b n) (same : (i : ℕ) → a ≤ i → i < a + b + 2 * n → getD u i 0 ≡ getD t i 0) where
+  member-same : (k : ℕ) → k < n → member u a b k ≡ member t a b k
+  member-same k l = same (a + b + 2 * k) (omega arith) (omega arith)
+
+  bucket-same : {k h v : ℕ} → k ≤ n → Last t a b k h v → Last u a b k h v
+  bucket-same {v = v} l o =
+      record {
+        within = o .within;
+        here = λ c. ap (λ y. y % b) (member-same (v - 1) (omega (arith, o .within))) ∙ o .here c;
+        none = λ j c d is. o .none j c d (ap (λ y. y % b) (sym (member-same j (omega arith))) ∙ is);
+      }
+
+  pub members-same : length t ≤ length u → Members u a b n
+  members-same l =
+      record {
+        buckets = m .buckets;
+        within = omega (arith, m .within);
+        apart = λ i j c d e. m .apart i j c d (sym (member-same i (omega arith)) ∙ e ∙ member-same j d);
+        heads = λ h c. rw (same (a + h) (omega arith) (omega arith)) (bucket-same (omega arith) (m .heads h c));
+        links = λ k c.
+            rw (member-same k c, same (a + b + 2 * k + 1) (omega arith) (omega arith)) (bucket-same (omega arith) (m .links k c));
+      }

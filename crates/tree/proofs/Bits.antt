@@ -15,7 +15,7 @@ pub same-bits-turned : (d w x y : ℕ) → SameBits d w y → SameBits d w x →
 same-bits-turned zero w x y p q = tt
 same-bits-turned (suc d) w x y p q = (same-bits-turned d w x y (p .0) (q .0), sym (p .1) ∙ q .1)
 
--- numbers with the same lowest bits are the same where those upper are
+-- numbers with the same lowest bits are the same where the bits behind those are
 same-bits-number : (d x y : ℕ) → SameBits d x y → upper d x ≡ upper d y → x ≡ y
 same-bits-number zero x y p e = e
 same-bits-number (suc d) x y p e =
