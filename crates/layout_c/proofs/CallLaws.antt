@@ -1,9 +1,9 @@
 -- A call's answer, in C's convention.
-use Prim.Native.Nat.{ℕ, _≤_}
+use Prim.Native.Nat.{ℕ, _≤_, _<_}
 use native.Mathlib.Omega.{arith}
 use mathlib.Core.Logic.{_↔_, _⊎_, inl, inr}
-use mathlib.Core.Path.{_≡_, refl, ap, _∙_}
-use mathlib.Core.List.{List, []}
+use mathlib.Core.Path.{_≡_, refl, sym, ap, _∙_}
+use mathlib.Core.List.{List, [], _∷_}
 use lib.ListN.{length}
 use Rattle.names.specs.Records.{renumberBytes}
 use Rattle.meaning.specs.Kinds.{body}
@@ -18,18 +18,24 @@ use Rattle.refusals.proofs.Unique.{one-to-eight}
 use Rattle.refusals.proofs.Laws.{one-number}
 use Rattle.demands.specs.Demands.{Nothing, Demand1}
 use Rattle.demands.proofs.Answering.{refused-number, accept-demand}
-use Rattle.layout_c.specs.Convention.{codeOf, writtenAfter, CallInC, AcceptInC}
+use Rattle.fixed_meaning.specs.Fixed.{sizing, placing}
+use Rattle.fixed_demand.proofs.Numbers.{fixed-number}
+use Rattle.offsets.specs.declared.Fixed.{Fixed}
+use Rattle.offsets.specs.declared.Fixed.the-variants.{Sized, Refused}
+use Rattle.offsets.specs.Placed as placed
+use Rattle.offsets.specs.Placed.{Extents, FixedCall}
+use Rattle.layout_c.specs.Convention.{codeOf, writtenAfter, sizeAfter, alignmentAfter, CallInC, AcceptInC, FixedInC}
 
--- the number of an answer whose refusals are 1 to 9
-module _ {r : ℕ} where
-  zero-code : (a : Answer) → r ≡ codeOf a → ((k : ℕ) → a ≡ refusedWith k → (1 ≤ k) × (k ≤ 9)) → (r ≡ 0) ↔ ((n : ℕ) × (a ≡ accepted n))
+-- the number of an answer whose refusals are 1 to `most`
+module _ (most : ℕ) {r : ℕ} where
+  zero-code : (a : Answer) → r ≡ codeOf a → ((k : ℕ) → a ≡ refusedWith k → (1 ≤ k) × (k ≤ most)) → (r ≡ 0) ↔ ((n : ℕ) × (a ≡ accepted n))
   unfolding codeOf
   zero-code (accepted n) e h = (λ z. (n, refl), λ z. e)
   zero-code (refusedWith k) e h =
       let p = h k refl in
       (λ z. absurd (omega (arith, e, z, p .0)), λ z. let y = z .1 in let w : _≡_ {A = ℕ} 0 1 = cc in absurd (omega arith))
 
-  known-code : (a : Answer) → r ≡ codeOf a → ((k : ℕ) → a ≡ refusedWith k → (1 ≤ k) × (k ≤ 9)) → r ≤ 9
+  known-code : (a : Answer) → r ≡ codeOf a → ((k : ℕ) → a ≡ refusedWith k → (1 ≤ k) × (k ≤ most)) → r ≤ most
   unfolding codeOf
   known-code (accepted n) e h = omega (arith, e)
   known-code (refusedWith k) e h = omega (arith, e, h k refl .1)
@@ -43,8 +49,8 @@ in-c f s {before = before} {written = written} c l e =
       code = code;
       length-out = l ∙ ap (λ a. writtenAfter a written) (c .answer);
       places = c .places;
-      zero = zero-code (answerOf o (length before)) code (refused-number f s (length before));
-      known = known-code (answerOf o (length before)) code (refused-number f s (length before));
+      zero = zero-code 9 (answerOf o (length before)) code (refused-number f s (length before));
+      known = known-code 9 (answerOf o (length before)) code (refused-number f s (length before));
     }
 
 pub report-in-c : (s : List ℕ) {before after : List ℕ} {a : Answer} {written written′ r : ℕ} → Call (reporting s) before after a
@@ -84,3 +90,38 @@ accept-in-c s bytes r e = go (d .cases .either)
           zero = (λ z. absurd (omega (arith, same, z, one)), λ k. absurd (none (k .0) (k .1)));
           known = omega (arith, same, one-number s bytes (g .0) (g .1), one-to-eight s .1);
         }
+
+-- The answer about a fixed size.
+module _ {i : ℕ} {s before after : List ℕ} {f : Fixed} (c : FixedCall i s before after f) (size alignment written : ℕ) {written′ r : ℕ} (l : written′ ≡ writtenAfter (placed.answerMeant f) written) (e : r ≡ codeOf (placed.answerMeant f)) where
+  a : Answer
+  a = answerOf (placing i s) (length before)
+
+  code-is : r ≡ codeOf a
+  unfolding a
+  code-is = e ∙ ap codeOf (c .call .answer)
+
+  numbered : (k : ℕ) → a ≡ refusedWith k → (1 ≤ k) × (k ≤ 12)
+  unfolding a
+  numbered = fixed-number i s (length before)
+
+  extents-out : (f : Fixed) → Extents (sizing i s) f → placed.answerMeant f ≡ a → r ≡ codeOf (placed.answerMeant f) → r ≡ 0 → sizing i s ≡ result (sizeAfter f size ∷ alignmentAfter f alignment ∷ [])
+  unfolding sizeAfter alignmentAfter placed.answerMeant codeOf
+  extents-out (Sized n al count) x p e z = x
+  extents-out (Refused k) x p e z = absurd (omega (arith, numbered k (sym p) .0, e, z))
+
+  stays : (f : Fixed) → r ≡ codeOf (placed.answerMeant f) → 0 < r → (sizeAfter f size ≡ size) × (alignmentAfter f alignment ≡ alignment)
+  unfolding sizeAfter alignmentAfter placed.answerMeant codeOf
+  stays (Sized n al count) e z = absurd (omega (arith, e, z))
+  stays (Refused k) e z = (refl, refl)
+
+  pub fixed-in-c : {size′ alignment′ : ℕ} → size′ ≡ sizeAfter f size → alignment′ ≡ alignmentAfter f alignment → FixedInC i s before after size size′ alignment alignment′ written written′ r
+  unfolding a
+  fixed-in-c p q = record {
+    code = code-is;
+    length-out = l ∙ ap (λ a. writtenAfter a written) (c .call .answer);
+    places = c .call .places;
+    extents = λ z. rw (p, q) (extents-out f (c .extents) (c .call .answer) e z);
+    stay = λ z. let y = stays f e z in (p ∙ y .0, q ∙ y .1);
+    zero = zero-code 12 a code-is numbered;
+    known = known-code 12 a code-is numbered;
+  }

@@ -1,12 +1,15 @@
 -- How a call answers in C: a number, and a length by pointer.
-use Prim.Native.Nat.{ℕ, _≤_}
-use mathlib.Core.List.{List}
+use Prim.Native.Nat.{ℕ, _≤_, _<_}
+use mathlib.Core.List.{List, [], _∷_}
 use mathlib.Core.Logic.{_↔_}
 use mathlib.Core.Path.{_≡_}
 use lib.ListN.{length}
 use Rattle.meaning.specs.Tree.{Bundle}
-use Rattle.meaning.specs.Calls.{Answer, accepted, refusedWith, Outcome, answerOf, placesAfter, acceptance}
+use Rattle.meaning.specs.Calls.{Answer, accepted, refusedWith, Outcome, result, answerOf, placesAfter, acceptance}
 use Rattle.refusals.specs.Numbers.{Keeps}
+use Rattle.fixed_meaning.specs.Fixed.{sizing, placing}
+use Rattle.offsets.specs.declared.Fixed.{Fixed}
+use Rattle.offsets.specs.declared.Fixed.the-variants.{Sized, Refused}
 
 -- 0 for an acceptance, and else the number of the refusal
 unfoldable pub codeOf : Answer → ℕ
@@ -33,3 +36,24 @@ pub record AcceptInC (s : List ℕ) (r : ℕ) : Type 0 where
   pub code : r ≡ codeOf (answerOf (acceptance s) 0)
   pub zero : (r ≡ 0) ↔ ((b : Bundle) × Keeps s b)
   pub known : r ≤ 8
+
+-- the size that stands where `size` points: the definition's on an acceptance, what it was on a refusal
+unfoldable pub sizeAfter : Fixed → ℕ → ℕ
+sizeAfter (Sized n a count) size = n
+sizeAfter (Refused k) size = size
+
+-- and so the alignment
+unfoldable pub alignmentAfter : Fixed → ℕ → ℕ
+alignmentAfter (Sized n a count) alignment = a
+alignmentAfter (Refused k) alignment = alignment
+
+-- The call for definition i of the bytes s returns r: its list and `written` change as with every call, and size and alignment become
+-- those due on an acceptance and stay on a refusal. r is 0 exactly where the call is accepted, and else one of the numbers 1 to 12.
+pub record FixedInC (i : ℕ) (s before after : List ℕ) (size size′ alignment alignment′ written written′ r : ℕ) : Type 0 where
+  pub code : r ≡ codeOf (answerOf (placing i s) (length before))
+  pub length-out : written′ ≡ writtenAfter (answerOf (placing i s) (length before)) written
+  pub places : after ≡ placesAfter (placing i s) before
+  pub extents : r ≡ 0 → sizing i s ≡ result (size′ ∷ alignment′ ∷ [])
+  pub stay : 0 < r → (size′ ≡ size) × (alignment′ ≡ alignment)
+  pub zero : (r ≡ 0) ↔ ((n : ℕ) × (answerOf (placing i s) (length before) ≡ accepted n))
+  pub known : r ≤ 12

@@ -1,10 +1,12 @@
 // The calls for C and Rust. A call answers 0 where it is accepted, and else the number of the refusal. The length of a result goes
 // to `written`, which a refusal leaves as it was.
 use bundle::Answer;
+use offsets::Fixed;
 ghost use mathlib.Core.Path.{_≡_};
 ghost use Rattle.meaning.specs.Due.{reporting, renumbering, chaining};
 ghost use Rattle.bundle.specs.Opened.{answerMeant};
-ghost use Rattle.layout_c.specs.Convention.{codeOf, writtenAfter, CallInC, AcceptInC};
+ghost use Rattle.offsets.specs.Placed as placed;
+ghost use Rattle.layout_c.specs.Convention.{codeOf, writtenAfter, sizeAfter, alignmentAfter, CallInC, AcceptInC, FixedInC};
 
 // The number for an answer.
 fn code(answer: Answer) -> u8
@@ -68,4 +70,64 @@ pub extern "C" fn layout_chain(
     let answer = find_chain::find_layout_dependency_chain(bundle, from, to, list);
     *written = length_out(answer, *written);
     code(answer)
+}
+
+// The number for an answer about a fixed size.
+fn fixed_code(answer: Fixed) -> u8
+    ensures { λ r. ⌜ r ≡ codeOf (placed.answerMeant answer) ⌝ }
+{
+    match answer {
+        Fixed::Sized(_, _, _) => 0,
+        Fixed::Refused(k) => k,
+    }
+}
+
+// The size that goes out for it, where `size` stood.
+fn size_out(answer: Fixed, size: u64) -> u64
+    ensures { λ r. ⌜ r ≡ sizeAfter answer size ⌝ }
+{
+    match answer {
+        Fixed::Sized(n, _, _) => n,
+        Fixed::Refused(_) => size,
+    }
+}
+
+// The alignment, where `alignment` stood.
+fn alignment_out(answer: Fixed, alignment: u64) -> u64
+    ensures { λ r. ⌜ r ≡ alignmentAfter answer alignment ⌝ }
+{
+    match answer {
+        Fixed::Sized(_, a, _) => a,
+        Fixed::Refused(_) => alignment,
+    }
+}
+
+// The length of the list, where `written` stood.
+fn offsets_out(answer: Fixed, written: usize) -> usize
+    ensures { λ r. ⌜ r ≡ writtenAfter (placed.answerMeant answer) written ⌝ }
+{
+    match answer {
+        Fixed::Sized(_, _, n) => n,
+        Fixed::Refused(_) => written,
+    }
+}
+
+// The size and alignment of a definition that never varies, and the offsets of its fields, into the first places of `list`.
+#[no_mangle]
+pub extern "C" fn layout_fixed_size(
+    bundle: &[u8],
+    definition: usize,
+    list: &mut [u32],
+    size: &mut u64,
+    alignment: &mut u64,
+    written: &mut usize,
+) -> u8
+    ensures { λ r. ⌜ FixedInC definition (now (bundle .entry)) (now (list .entry)) (now (list .exit)) (now (size .entry)) (now (size .exit))
+        (now (alignment .entry)) (now (alignment .exit)) (now (written .entry)) (now (written .exit)) r ⌝ }
+{
+    let answer = offsets::fixed_size(bundle, definition, list);
+    *size = size_out(answer, *size);
+    *alignment = alignment_out(answer, *alignment);
+    *written = offsets_out(answer, *written);
+    fixed_code(answer)
 }
