@@ -24,6 +24,7 @@ pub mod bundle;
 pub mod cases;
 pub mod compare;
 pub mod damage;
+pub mod fixed;
 pub mod generate;
 pub mod limits;
 pub mod original;

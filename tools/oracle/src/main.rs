@@ -2,6 +2,7 @@
 
 use layout_oracle::cases::{cases, Case};
 use layout_oracle::compare::{compare_answers, compare_readings, hex, Difference, Tally};
+use layout_oracle::fixed::fixed_answer;
 use layout_oracle::limits::edge_cases;
 use layout_oracle::reader;
 use layout_oracle::report::{program_bytes, report_bytes};
@@ -14,6 +15,7 @@ const USAGE: &str = "usage:
   oracle report < bundle > report
   oracle renumber < bundle > bundle
   oracle chain FROM TO < bundle
+  oracle fixed DEFINITION < bundle
   oracle self SEED COUNT
   oracle program PATH SEED COUNT
   oracle cases SEED COUNT
@@ -26,6 +28,7 @@ fn main() -> ExitCode {
         ["report"] => report(),
         ["renumber"] => renumber(),
         ["chain", from, to] => number(from).zip(number(to)).map(|(f, t)| chain(f, t)),
+        ["fixed", definition] => number(definition).map(fixed),
         ["self", seed, count] => number(seed)
             .zip(number(count))
             .map(|(seed, count)| finish(|| compare_readings(seed, count as usize))),
@@ -82,6 +85,18 @@ fn chain(from: u64, to: u64) -> ExitCode {
             None => println!("none"),
             Some(names) => println!("{names:?}"),
         },
+    }
+    ExitCode::SUCCESS
+}
+
+fn fixed(definition: u64) -> ExitCode {
+    let definition = usize::try_from(definition).unwrap_or(usize::MAX);
+    match fixed_answer(&input(), definition, usize::MAX) {
+        Err(refusal) => println!("refused {refusal}"),
+        Ok(found) => {
+            println!("size {}, alignment {}", found.size, found.alignment);
+            println!("offsets {:?}", found.offsets);
+        }
     }
     ExitCode::SUCCESS
 }
