@@ -15,7 +15,7 @@ const WHOLE_ROWS: u64 = 4;
 const LEFT: u64 = 92;
 const BYTE: u64 = 110;
 const RIGHT: u64 = 18;
-const ROW: u64 = 68;
+const ROW: u64 = 72;
 const BREAK: u64 = 30;
 const LINE: u64 = 15;
 const WIDTH: u64 = LEFT + ROW_BYTES * BYTE + RIGHT;
@@ -23,10 +23,10 @@ const WIDTH: u64 = LEFT + ROW_BYTES * BYTE + RIGHT;
 const LETTER_TENTHS: u64 = 73;
 
 const STYLE: &str = "<style>text{font:12px monospace;fill:#1a1a1a}.name{font-weight:bold}\
-.faint{fill:#666}.line{fill:none;stroke:#333;stroke-width:1.2}</style>\n\
+.faint{fill:#555}.gap{stroke:#fff;stroke-width:4px;paint-order:stroke}.line{fill:none;stroke:#333;stroke-width:1.2}</style>\n\
 <defs><pattern id=\"hatch\" width=\"7\" height=\"7\" patternUnits=\"userSpaceOnUse\" \
 patternTransform=\"rotate(45)\"><rect width=\"7\" height=\"7\" fill=\"#fff\"/>\
-<rect width=\"2\" height=\"7\" fill=\"#c8c8c8\"/></pattern></defs>\n";
+<rect width=\"2\" height=\"7\" fill=\"#d4d4d4\"/></pattern></defs>\n";
 const FILLS: [&str; 2] = ["#e3ecfb", "#fbf0d9"];
 const HATCH: &str = "url(#hatch)";
 
@@ -53,11 +53,20 @@ impl Part<'_> {
         (from, self.end().min(start + ROW_BYTES) - start)
     }
 
+    /// The class of a text in the box: hatching needs its own.
+    fn class(&self, plain: &'static str, hatched: &'static str) -> &'static str {
+        match self.fill == HATCH {
+            true => hatched,
+            false => plain,
+        }
+    }
+
     fn name(&self) -> &str {
         match &self.row.content {
             Content::Field { name, .. } => name,
             Content::Gap => "gap",
             Content::Padding => "padding",
+            Content::Unused => "unused",
         }
     }
 }
@@ -127,7 +136,7 @@ impl Canvas {
             self.down += LINE;
             self.text(RIGHT, self.down + 8, "", &line);
         }
-        self.down += LINE;
+        self.down += LINE + 4;
     }
 
     /// Each member by itself, from byte 0 to the size of the union.
@@ -140,7 +149,7 @@ impl Canvas {
                 level: 0,
                 offset: row.size,
                 size: size.saturating_sub(row.size),
-                content: Content::Padding,
+                content: Content::Unused,
             };
             self.band(&parts(&[row, &rest]));
         }
@@ -205,8 +214,17 @@ impl Canvas {
         match labelled {
             true => self.label(part, x, width),
             false => {
-                let words = fitted(&format!("… {}", part.name()), width);
-                self.text(x + 5, y + LINE + 3, "faint", &words);
+                let words = match row == first {
+                    true => format!("{} …", part.name()),
+                    false => format!("… {}", part.name()),
+                };
+                let words = fitted(&words, width);
+                self.text(
+                    x + 5,
+                    y + LINE + 3,
+                    part.class("faint", "faint gap"),
+                    &words,
+                );
             }
         }
     }
@@ -221,7 +239,7 @@ impl Canvas {
         }
         for line in names {
             y += LINE;
-            self.text(x + 5, y, "name", &line);
+            self.text(x + 5, y, part.class("name", "name gap"), &line);
         }
         if let Content::Field { type_text, .. } = &part.row.content {
             y += LINE;
@@ -230,14 +248,18 @@ impl Canvas {
         let at = format!("at {}", part.row.offset);
         let long = format!("{at}, {}", counted(part.row.size, "byte"));
         let fits = long.chars().count() as u64 <= letters(width - 10);
-        self.text(x + 5, y + LINE, "faint", if fits { &long } else { &at });
+        let class = part.class("faint", "faint gap");
+        self.text(x + 5, y + LINE, class, if fits { &long } else { &at });
     }
 
     /// The mark for rows that are left out, all of one part.
     fn broken(&mut self, parts: &[Part], row: u64, next: u64) {
         let whole = |part: &&Part| part.rows().0 <= row && part.rows().1 >= next;
         let part = parts.iter().find(whole);
-        let (fill, name) = part.map_or((HATCH, ""), |part| (part.fill, part.name()));
+        let (fill, name, class) = match part {
+            Some(part) => (part.fill, part.name(), part.class("", "gap")),
+            None => (HATCH, "", "gap"),
+        };
         let left_out = counted((next - row - 1) * ROW_BYTES, "byte");
         let (x, y, width) = (LEFT, self.down, ROW_BYTES * BYTE);
         self.add(format_args!(
@@ -250,7 +272,7 @@ impl Canvas {
             ));
         }
         let words = format!("… {left_out} more of {name}, not drawn …");
-        self.text(x + 5, y + BREAK / 2 + 4, "", &fitted(&words, width));
+        self.text(x + 5, y + BREAK / 2 + 4, class, &fitted(&words, width));
         self.down += BREAK;
     }
 
@@ -300,6 +322,7 @@ fn tip(row: &Row) -> String {
         } => format!("{name}: {type_text}, at {offset}, {size}, alignment {alignment}"),
         Content::Gap => format!("gap at {offset}, {size}"),
         Content::Padding => format!("padding at {offset}, {size}"),
+        Content::Unused => format!("unused by this member, from {offset}, {size}"),
     }
 }
 

@@ -21,6 +21,8 @@ pub enum Content {
     Gap,
     /// After the last field.
     Padding,
+    /// What one member of a union leaves of it; only in pictures.
+    Unused,
 }
 
 impl Row {
@@ -34,6 +36,7 @@ impl Row {
             } => (alignment.to_string(), name.as_str(), type_text.as_str()),
             Content::Gap => (String::new(), "(gap)", ""),
             Content::Padding => (String::new(), "(padding)", ""),
+            Content::Unused => (String::new(), "(unused)", ""),
         };
         [
             self.offset.to_string(),
