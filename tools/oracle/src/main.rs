@@ -3,10 +3,11 @@
 use layout_oracle::cases::{cases, Case};
 use layout_oracle::compare::{compare_answers, compare_readings, hex, Difference, Tally};
 use layout_oracle::fixed::fixed_answer;
+use layout_oracle::fixed_cases::{fixed_cases, FixedCase};
 use layout_oracle::limits::edge_cases;
 use layout_oracle::reader;
 use layout_oracle::report::{program_bytes, report_bytes};
-use layout_oracle::{bundle, original, reference, work};
+use layout_oracle::{bundle, fixed_examples, original, reference, work};
 use std::io::{self, Read, Write};
 use std::process::{Command, ExitCode, Stdio};
 use std::time::Instant;
@@ -19,7 +20,8 @@ const USAGE: &str = "usage:
   oracle self SEED COUNT
   oracle program PATH SEED COUNT
   oracle cases SEED COUNT
-  oracle edgecases";
+  oracle edgecases
+  oracle fixedcases SEED COUNT";
 
 fn main() -> ExitCode {
     let arguments: Vec<String> = std::env::args().skip(1).collect();
@@ -31,13 +33,16 @@ fn main() -> ExitCode {
         ["fixed", definition] => number(definition).map(fixed),
         ["self", seed, count] => number(seed)
             .zip(number(count))
-            .map(|(seed, count)| finish(|| compare_readings(seed, count as usize))),
+            .map(|(seed, count)| finish(|| compare_self(seed, count as usize))),
         ["program", path, seed, count] => number(seed)
             .zip(number(count))
             .map(|(seed, count)| finish(|| program(path, seed, count as usize))),
         ["cases", seed, count] => number(seed)
             .zip(number(count))
             .map(|(seed, count)| print_cases(&cases(seed, count as usize))),
+        ["fixedcases", seed, count] => number(seed)
+            .zip(number(count))
+            .map(|(seed, count)| print_fixed_cases(&fixed_cases(seed, count as usize))),
         ["edgecases"] => Some(print_cases(&edge_cases())),
         _ => None,
     };
@@ -116,6 +121,12 @@ fn finish(run: impl FnOnce() -> Result<Tally, Difference>) -> ExitCode {
     }
 }
 
+fn compare_self(seed: u64, count: usize) -> Result<Tally, Difference> {
+    let checked = fixed_examples::check().unwrap_or_else(|text| panic!("{text}"));
+    println!("examples of fixed sizes  {checked}");
+    compare_readings(seed, count)
+}
+
 fn program(path: &str, seed: u64, count: usize) -> Result<Tally, Difference> {
     for case in edge_cases() {
         let found = run_program(path, &case.bundle);
@@ -149,16 +160,31 @@ fn run_program(path: &str, bytes: &[u8]) -> Vec<u8> {
     result.stdout
 }
 
-/// One case a line; an empty bundle is written as `-`.
+/// An empty bundle is written as `-`.
+fn bundle_text(bytes: &[u8]) -> String {
+    match bytes.is_empty() {
+        true => "-".to_string(),
+        false => hex(bytes),
+    }
+}
+
+/// One case a line.
 fn print_cases(list: &[Case]) -> ExitCode {
     let mut out = io::BufWriter::new(io::stdout().lock());
     for case in list {
-        let bundle = match case.bundle.is_empty() {
-            true => "-".to_string(),
-            false => hex(&case.bundle),
-        };
+        let bundle = bundle_text(&case.bundle);
         let answer = hex(&case.answer);
         writeln!(out, "{bundle} {answer}").expect("standard output");
+    }
+    ExitCode::SUCCESS
+}
+
+fn print_fixed_cases(list: &[FixedCase]) -> ExitCode {
+    let mut out = io::BufWriter::new(io::stdout().lock());
+    for case in list {
+        let bundle = bundle_text(&case.bundle);
+        let answer = hex(&case.answer);
+        writeln!(out, "{} {bundle} {answer}", case.definition).expect("standard output");
     }
     ExitCode::SUCCESS
 }
