@@ -3,6 +3,7 @@
 
 mod compare;
 mod exchange;
+mod fixed;
 mod inputs;
 mod measure;
 mod shapes;
