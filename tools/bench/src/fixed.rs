@@ -8,7 +8,7 @@ use layout_oracle::fixed::{fixed_size, Fixed};
 use layout_oracle::fixed_cases::{fixed_bytes, some_definition};
 use layout_oracle::fixed_examples::examples;
 use layout_oracle::random::Random;
-use layout_oracle::reader;
+use layout_oracle::{reader, repr_c};
 
 type Answer = Result<Fixed, u8>;
 
@@ -186,6 +186,25 @@ fn plain_call(bytes: &[u8], definition: usize, list: &mut [u32]) -> (u8, (u64, u
         )
     };
     (number, (size, alignment, written))
+}
+
+/// Compares the library with what rustc says of the same types, from standard input.
+pub fn compare_repr_c(seed: u64, count: usize) -> bool {
+    let lines = std::io::read_to_string(std::io::stdin()).expect("standard input");
+    let answer = |bytes: &[u8], definition: usize| {
+        let found = layout::fixed_size_vec(bytes, definition).map_err(Refusal::number)?;
+        Ok(Fixed {
+            size: found.size,
+            alignment: found.alignment,
+            offsets: found.offsets,
+        })
+    };
+    let outcome = repr_c::compare(seed, count, &lines, &answer);
+    match &outcome {
+        Ok(tally) => println!("as in rustc, by the library: {tally}"),
+        Err(text) => println!("unlike rustc, by the library: {text}"),
+    }
+    outcome.is_ok()
 }
 
 impl Tally {

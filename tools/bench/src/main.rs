@@ -112,6 +112,8 @@ const NAME_WIDTH: usize = 44;
 const USAGE: &str = "usage:
   bench [--quick]            times of the library and the original
   bench compare SEED COUNT   the library's answers against the oracle's
+  bench reprc SEED COUNT     the library's fixed sizes against those of rustc, which
+                             tools/oracle/repr-c.sh gives on standard input
   bench rows FOLDER          the bundle of each case as a file, for the programs in c/
   bench original NUMBER      the original's time and report for one case";
 
@@ -124,6 +126,10 @@ fn main() -> ExitCode {
         ["compare", seed, count] => {
             let numbers = seed.parse().ok().zip(count.parse().ok());
             numbers.map(|(seed, count)| compare::compare(seed, count))
+        }
+        ["reprc", seed, count] => {
+            let numbers = seed.parse().ok().zip(count.parse().ok());
+            numbers.map(|(seed, count)| fixed::compare_repr_c(seed, count))
         }
         ["rows", folder] => Some(write_rows(folder)),
         ["original", number] => number.parse().ok().map(original_alone),

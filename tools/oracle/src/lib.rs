@@ -35,5 +35,6 @@ pub mod random;
 pub mod reader;
 pub mod reference;
 pub mod report;
+pub mod repr_c;
 pub mod scan;
 pub mod work;

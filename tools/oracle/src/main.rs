@@ -7,7 +7,7 @@ use layout_oracle::fixed_cases::{fixed_cases, FixedCase};
 use layout_oracle::limits::edge_cases;
 use layout_oracle::reader;
 use layout_oracle::report::{program_bytes, report_bytes};
-use layout_oracle::{bundle, fixed_examples, original, reference, work};
+use layout_oracle::{bundle, fixed_examples, original, reference, repr_c, work};
 use std::io::{self, Read, Write};
 use std::process::{Command, ExitCode, Stdio};
 use std::time::Instant;
@@ -21,7 +21,9 @@ const USAGE: &str = "usage:
   oracle program PATH SEED COUNT
   oracle cases SEED COUNT
   oracle edgecases
-  oracle fixedcases SEED COUNT";
+  oracle fixedcases SEED COUNT
+  oracle reprc-source SEED COUNT > program.rs
+  oracle reprc SEED COUNT < output of the program";
 
 fn main() -> ExitCode {
     let arguments: Vec<String> = std::env::args().skip(1).collect();
@@ -43,6 +45,12 @@ fn main() -> ExitCode {
         ["fixedcases", seed, count] => number(seed)
             .zip(number(count))
             .map(|(seed, count)| print_fixed_cases(&fixed_cases(seed, count as usize))),
+        ["reprc-source", seed, count] => number(seed)
+            .zip(number(count))
+            .and_then(|(seed, count)| output(repr_c::source(seed, count as usize).as_bytes())),
+        ["reprc", seed, count] => number(seed)
+            .zip(number(count))
+            .map(|(seed, count)| compare_repr_c(seed, count as usize)),
         ["edgecases"] => Some(print_cases(&edge_cases())),
         _ => None,
     };
@@ -104,6 +112,21 @@ fn fixed(definition: u64) -> ExitCode {
         }
     }
     ExitCode::SUCCESS
+}
+
+fn compare_repr_c(seed: u64, count: usize) -> ExitCode {
+    let lines = String::from_utf8(input()).expect("text");
+    let answer = |bytes: &[u8], definition| fixed_answer(bytes, definition, usize::MAX);
+    match repr_c::compare(seed, count, &lines, &answer) {
+        Ok(tally) => {
+            println!("as in rustc, by the second reading: {tally}");
+            ExitCode::SUCCESS
+        }
+        Err(text) => {
+            println!("unlike rustc, by the second reading: {text}");
+            ExitCode::FAILURE
+        }
+    }
 }
 
 fn finish(run: impl FnOnce() -> Result<Tally, Difference>) -> ExitCode {
