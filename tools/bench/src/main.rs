@@ -4,6 +4,7 @@
 mod compare;
 mod exchange;
 mod fixed;
+mod fixed_rows;
 mod inputs;
 mod measure;
 mod shapes;
@@ -111,6 +112,7 @@ const NAME_WIDTH: usize = 44;
 
 const USAGE: &str = "usage:
   bench [--quick]            times of the library and the original
+  bench fixed                the times of fixed sizes alone
   bench compare SEED COUNT   the library's answers against the oracle's
   bench reprc SEED COUNT     the library's fixed sizes against those of rustc, which
                              tools/oracle/repr-c.sh gives on standard input
@@ -123,6 +125,7 @@ fn main() -> ExitCode {
     let done = match words[..] {
         [] => Some(times(false)),
         ["--quick"] => Some(times(true)),
+        ["fixed"] => Some(fixed_rows::print()),
         ["compare", seed, count] => {
             let numbers = seed.parse().ok().zip(count.parse().ok());
             numbers.map(|(seed, count)| compare::compare(seed, count))
@@ -151,7 +154,8 @@ fn times(quick: bool) -> bool {
     let same = print_reports(quick);
     print_growth();
     print_other_calls();
-    same
+    println!();
+    fixed_rows::print() && same
 }
 
 fn cases() -> Vec<(&'static str, Bundle)> {
@@ -182,6 +186,7 @@ fn write_rows(folder: &str) -> bool {
     };
     cases()
         .into_iter()
+        .chain(fixed_rows::cases())
         .enumerate()
         .map(write)
         .all(|written| written.is_ok())
