@@ -4,6 +4,7 @@ mod files;
 
 use files::{FileError, Input};
 use layout::Refusal;
+use layout_text::circle::circle;
 use layout_text::encode::encode;
 use layout_text::explain::{explain, Parts, Source};
 use layout_text::names::Names;
@@ -13,7 +14,7 @@ use layout_text::recognise::is_text;
 use layout_text::report::{self, Report};
 use layout_text::show::show;
 use layout_text::sizes::Sizes;
-use layout_text::tree::BYTE_LIMIT;
+use layout_text::tree::{Bundle, BYTE_LIMIT};
 use layout_text::words::cut;
 use std::io::{self, Write};
 use std::process::ExitCode;
@@ -394,11 +395,7 @@ fn run_sizes(arguments: &Arguments) -> Result<u8, Failure> {
         }
         return Ok(REFUSED);
     }
-    let bundle = read(&bytes).map_err(|fault| {
-        failure(format!(
-            "the library accepts the bundle, but the fault is at {fault}"
-        ))
-    })?;
+    let bundle = accepted(&bytes).map_err(failure)?;
     let mut sizes = Sizes::new(&bundle, &bytes, &source);
     match &arguments.name {
         Some(name) => {
@@ -412,6 +409,16 @@ fn run_sizes(arguments: &Arguments) -> Result<u8, Failure> {
             }
             Ok(0)
         }
+    }
+}
+
+/// The tree of a bundle that the library accepts, if this program finds no fault in it either.
+fn accepted(bytes: &[u8]) -> Result<Bundle, String> {
+    let bundle = read(bytes)
+        .map_err(|fault| format!("the library accepts the bundle, but the fault is at {fault}"))?;
+    match circle(&bundle) {
+        Some(_) => Err("the library accepts the bundle, but it circles".to_string()),
+        None => Ok(bundle),
     }
 }
 
