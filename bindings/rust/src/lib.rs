@@ -145,8 +145,8 @@ pub fn chain(bundle: &[u8], from: u16, to: u16, list: &mut [u16]) -> Result<usiz
     outcome(number, written)
 }
 
-/// Size and alignment of the definition of that number, from 0, if they are fixed; its fields' offsets stand at the
-/// start of `offsets`.
+/// Size and alignment of the definition of that number, from 0, if they are fixed. The offsets of its fields stand at
+/// the start of `offsets` then.
 pub fn fixed_size(
     bundle: &[u8],
     definition: usize,

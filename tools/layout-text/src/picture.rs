@@ -23,7 +23,8 @@ const WIDTH: u64 = LEFT + ROW_BYTES * BYTE + RIGHT;
 const LETTER_TENTHS: u64 = 73;
 
 const STYLE: &str = "<style>text{font:12px monospace;fill:#1a1a1a}.name{font-weight:bold}\
-.faint{fill:#555}.gap{stroke:#fff;stroke-width:4px;paint-order:stroke}.line{fill:none;stroke:#333;stroke-width:1.2}</style>\n\
+.faint{fill:#555}.gap{stroke:#fff;stroke-width:4px;paint-order:stroke}\
+.line{fill:none;stroke:#333;stroke-width:1.2}</style>\n\
 <defs><pattern id=\"hatch\" width=\"7\" height=\"7\" patternUnits=\"userSpaceOnUse\" \
 patternTransform=\"rotate(45)\"><rect width=\"7\" height=\"7\" fill=\"#fff\"/>\
 <rect width=\"2\" height=\"7\" fill=\"#d4d4d4\"/></pattern></defs>\n";

@@ -322,6 +322,16 @@ for option in --text --hex; do
   [ $? -eq 1 ] && [ ! -s "$work/printed" ] || fail "a long answer, $option"
 done
 
+# And sizes of many fields, once more for each name that leads to them.
+awk 'BEGIN {
+  print "define a0 struct {"
+  for (n = 0; n < 8000; n++) print "f: u8"
+  print "}"
+  for (n = 1; n < 40; n++) print "define a" n " ref a" n - 1
+}' > "$work/wide"
+bounded 0 '40 of 40 definitions have a fixed size.' sizes "$work/wide"
+bounded 0 '<title>f: u8, at 7999, 1 byte, alignment 1</title>' sizes "$work/wide" a39 --svg
+
 # What cannot be written.
 { echo 'define #1 struct {'; awk 'BEGIN { for (n = 0; n < 8000; n++) print "#65535: u8" }'; echo '}'; } > "$work/input"
 "$tool" assemble "$work/input" > "$work/long"

@@ -230,15 +230,20 @@ fn attribute(element: &str, name: &str) -> Option<i64> {
     rest[..rest.find('"')?].parse().ok()
 }
 
-/// Checks that boxes neither overlap nor leave the picture, and that texts stay in it; how many boxes there are.
-fn check_picture(drawn: &str) -> usize {
-    let elements: Vec<&str> = drawn.split('<').collect();
-    let number = |element: &str, name| attribute(element, name).expect(element);
+fn number(element: &str, name: &str) -> i64 {
+    attribute(element, name).unwrap_or_else(|| panic!("no {name} in {element}"))
+}
+
+/// A box of a picture: from the top, from the left, height and width.
+type Box = [i64; 4];
+
+/// The boxes of a picture, row by row. They neither overlap nor leave it.
+fn boxes(elements: &[&str]) -> Vec<Box> {
     let (width, height) = (number(elements[1], "width"), number(elements[1], "height"));
-    let boxes = elements
+    let found = elements
         .iter()
         .filter(|element| element.starts_with("rect x="));
-    let mut boxes: Vec<[i64; 4]> = boxes
+    let mut boxes: Vec<Box> = found
         .map(|element| ["y", "x", "height", "width"].map(|name| number(element, name)))
         .collect();
     boxes.sort_unstable();
@@ -247,32 +252,40 @@ fn check_picture(drawn: &str) -> usize {
     }
     for pair in boxes.windows(2) {
         let [[y, x, tall, wide], [next_y, next_x, ..]] = [pair[0], pair[1]];
-        assert!(
-            next_y >= y + tall || (next_y == y && next_x >= x + wide),
-            "{pair:?}"
-        );
+        let apart = next_y >= y + tall || (next_y == y && next_x >= x + wide);
+        assert!(apart, "{pair:?}");
     }
+    boxes
+}
+
+/// Checks the boxes, and that each text stays in its box and in the picture; how many boxes there are.
+fn check_picture(drawn: &str) -> usize {
+    let elements: Vec<&str> = drawn.split('<').collect();
+    let (width, height) = (number(elements[1], "width"), number(elements[1], "height"));
+    let boxes = boxes(&elements);
     for element in elements
         .iter()
         .filter(|element| element.starts_with("text "))
     {
         let (x, y) = (number(element, "x"), number(element, "y"));
         let words = element.split_once('>').expect(element).1;
-        let words = words
-            .replace("&lt;", "<")
-            .replace("&amp;", "&")
-            .replace("&gt;", ">");
         // Letters of 12 pixels are 7.3 pixels wide at most.
         let right = x + (words.chars().count() as i64 * 73 + 9) / 10;
         assert!(
             x >= 0 && y >= 10 && right <= width && y <= height,
             "{element}"
         );
-        let inside = boxes.iter().find(|[by, bx, tall, wide]| {
-            (*by..by + tall).contains(&y) && (*bx..bx + wide).contains(&x)
-        });
+        // The last box that starts above, and left of it.
+        let before = boxes.partition_point(|[top, left, ..]| (*top, *left) <= (y, x));
+        let row = boxes[..before].last().map_or(0, |[top, ..]| *top);
+        let inside = boxes[..before]
+            .iter()
+            .rev()
+            .take_while(|[top, ..]| *top == row);
+        let mut inside = inside
+            .filter(|[top, left, tall, wide]| y < top + tall && (*left..left + wide).contains(&x));
         assert!(
-            inside.is_none_or(|[_, bx, _, wide]| right <= bx + wide),
+            inside.all(|[_, left, _, wide]| right <= left + wide),
             "{element}"
         );
     }
