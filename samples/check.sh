@@ -39,13 +39,13 @@ for name in $names; do
   [ "$status" -ne 2 ] || due=samples/$name.expected
   compare "$name, sizes" "$due" "$work/sizes"
 done
-"$tool" sizes samples/sizes-fixed.layout display_frame --svg > "$work/picture"
+"$tool" sizes samples/sizes-fixed.layout display_frame --svg > "$work/picture" || :
 compare 'sizes-fixed, picture' samples/sizes-fixed.svg "$work/picture"
 for name in $texts; do
   "$tool" explain "samples/$name.layout" > "$work/words" || [ $? -le 2 ]
   compare "$name, from the text" "samples/$name.expected" "$work/words"
   if [ -f "samples/$name.sizes" ]; then
-    "$tool" sizes "samples/$name.layout" > "$work/sizes"
+    "$tool" sizes "samples/$name.layout" > "$work/sizes" || :
     compare "$name, sizes from the text" "samples/$name.sizes" "$work/sizes"
   fi
   bundle $name > "$work/bundle"

@@ -124,6 +124,28 @@ fn elements_show_the_first_of_them() {
 }
 
 #[test]
+fn offsets_count_from_the_start_of_the_definition() {
+    let text = "define a struct { x: u32, i: struct { y: u16, j: array [2u8] struct { k: u8, l: union { m: u8 } } } }";
+    let table = fixed(text);
+    let offset = |name: &str| {
+        let row = table.lines().find(|row| row.contains(&format!(" {name} ")));
+        row.and_then(|row| row.split_whitespace().next()?.parse().ok())
+    };
+    let due = [
+        ("x", 0),
+        ("i", 4),
+        ("y", 4),
+        ("j", 6),
+        ("[0].k", 6),
+        ("[0].l", 7),
+        ("m", 7),
+    ];
+    for (name, place) in due {
+        assert_eq!(offset(name), Some(place), "{name}\n{table}");
+    }
+}
+
+#[test]
 fn what_varies_is_named() {
     let word = "varying (11)";
     let cases = [
