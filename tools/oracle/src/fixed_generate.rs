@@ -346,7 +346,11 @@ impl Maker<'_> {
     fn product(&mut self, total: u64) -> Type {
         let factors = [3, 4, 8, 17, 257, 65_535, 65_536, 65_537];
         let factor = self.random.pick(&factors);
-        let factor = if total % factor == 0 { factor } else { 1 };
+        let factor = if total.is_multiple_of(factor) {
+            factor
+        } else {
+            1
+        };
         let element = Box::new(self.bytes(total / factor));
         let size = self.literal(factor);
         Type::Array(self.ignored_attributes(), false, size, element)

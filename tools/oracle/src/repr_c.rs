@@ -31,6 +31,9 @@ enum Part {
     Item(usize),
 }
 
+/// What is said of a definition of a bundle, by its number.
+pub type Answer<'a> = dyn Fn(&[u8], usize) -> Result<Fixed, Refusal> + 'a;
+
 /// Above this bound a type is not held by another one: rustc has a limit too.
 const HELD_BOUND: u64 = 1 << 33;
 /// Names of the definitions that are TypeRefs to the others.
@@ -300,12 +303,7 @@ impl fmt::Display for Tally {
 
 /// Compares the lines that the program printed with the answers for the bundles, for
 /// each type and for a TypeRef to it.
-pub fn compare(
-    seed: u64,
-    count: usize,
-    lines: &str,
-    answer: &dyn Fn(&[u8], usize) -> Result<Fixed, Refusal>,
-) -> Result<Tally, String> {
+pub fn compare(seed: u64, count: usize, lines: &str, answer: &Answer) -> Result<Tally, String> {
     let mut rows = lines.lines();
     let mut tally = Tally::default();
     for set in sets(seed, count) {
