@@ -4,8 +4,8 @@
  * below reads a bundle, refuses one that is damaged, and answers about one that
  * is sound. An answer depends on the call's arguments alone, not on earlier calls.
  *
- * What a call returns: 0 if the bundle was accepted, otherwise the number of the
- * refusal (see below).
+ * What a call returns: 0 if it accepted what it was given, otherwise the number of
+ * the refusal (see below).
  *
  * What happens to the output: an accepted call writes `*written` items from the
  * start of the buffer and leaves the rest of the buffer as it was. A refused
@@ -27,7 +27,7 @@
  *
  * Threads: the library has no variables of its own, no heap and no locks, and keeps
  * nothing from one call to the next. Calls may run at the same time. Several may
- * read one bundle; each needs a buffer and a `written` of its own, and none of them
+ * read one bundle; each needs outputs of its own, and neither these nor the bundle
  * may be written by others during the call. A call works on the stack of its
  * thread and takes less than LAYOUT_STACK_BYTES of it: that is measured and tested
  * with bundles made to go deep, and not proved.
@@ -105,14 +105,14 @@ uint8_t layout_chain(const uint8_t *bundle, size_t bundle_len, uint16_t from,
 /* The size and the alignment, in bytes, of a definition that never varies, and the
  * offsets of its fields. `definition` is its number, from 0 in the bundle's order.
  *
- * A primitive is aligned to its size. A struct puts each field at the next multiple
- * of the field's alignment, and a packed one without gaps; a union puts its members
- * at 0 and has the size of the largest. Both are aligned as the member with the
- * largest alignment, and to 1 if packed or without members; an `aligned` above that
- * replaces it, packed or not. Their size is rounded up to a multiple of their
- * alignment. An array is its count times the size of its element and is aligned as
- * that; its own attributes do not count. A TypeRef is the first definition of its
- * name.
+ * A primitive has 1, 2, 4 or 8 bytes (a Char 1) and is aligned to its size. A struct
+ * puts each field at the next multiple of the field's alignment, and a packed one
+ * without gaps; a union puts its members at 0 and has the size of the largest. Both
+ * are aligned as the member with the largest alignment, and to 1 if packed or
+ * without members; an `aligned` above that replaces it, packed or not. Their size is
+ * rounded up to a multiple of their alignment. An array is its count times the size
+ * of its element and is aligned as that; its own attributes do not count. A TypeRef
+ * is the first definition of its name.
  *
  * The offsets are those of the struct that the definition is, or that it leads to as
  * a TypeRef, by more TypeRefs too if each is the whole of its definition; in the
