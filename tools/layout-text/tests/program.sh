@@ -240,6 +240,19 @@ wrong '`cell` is no type' sizes "$work/wrong.layout"
 : > "$work/plain.layout"
 expect 0 '0 of 0 definitions have a fixed size.' sizes "$work/plain.layout"
 
+# The examples of sizes in README.md.
+rm -f "$work"/example-*
+awk -v work="$work" '
+  sub(/^    \$ layout-text sizes /, "") { file = work "/example-" ++n; print > (file ".words"); next }
+  /^$/ { file = "" }
+  file { print substr($0, 5) > file }' tools/layout-text/README.md
+examples=0
+for example in "$work"/example-*.words; do
+  examples=$((examples + 1))
+  "$tool" sizes $(cat "$example") 2>&1 | cmp -s - "${example%.words}" || fail "the example $(cat "$example") of README.md"
+done
+[ "$examples" -eq 2 ] || fail "$examples examples of sizes in README.md"
+
 # Pictures: to a file or to standard output; words where there is none to draw.
 expect 0 - sizes "$work/sizes.layout" cell --svg -o "$work/picture.svg"
 expect 0 '<title>gain: f32, at 4, 4 bytes, alignment 4</title>' sizes "$work/sizes.layout" cell --svg
