@@ -4,28 +4,30 @@
  * below reads a bundle, refuses one that is damaged, and answers about one that
  * is sound. An answer depends on the call's arguments alone, not on earlier calls.
  *
- * What a call returns: 0 if the bundle was accepted, otherwise the number of the
- * refusal (see below).
+ * What a call returns: 0 if it accepted what it was given, otherwise the number of
+ * the refusal (see below).
  *
  * What happens to the output: an accepted call writes `*written` items from the
  * start of the buffer and leaves the rest of the buffer as it was. A refused
- * call leaves the whole buffer and `*written` as they were. The bundle is only
- * read. Bundle, buffer and `written` must not overlap.
+ * call leaves the whole buffer, `*written` and, for layout_fixed_size, `*size` and
+ * `*alignment` as they were. The bundle is only read. Bundle, buffer, `written`,
+ * `size` and `alignment` must not overlap.
  *
  * A pointer to a bundle or a buffer may be null only if its length is 0;
- * `written` may never be null.
+ * `written`, `size` and `alignment` may never be null.
  *
  * Byte order: in the bytes of a bundle and of a report every number of more than
- * one byte is little-endian. The names that layout_chain takes and writes, and
- * `*written`, are numbers of C in the machine's own order. docs/FORMAT.md has both
- * formats byte by byte.
+ * one byte is little-endian. The names that layout_chain takes and writes, the
+ * numbers that layout_fixed_size takes and writes, and `*written`, are numbers of C
+ * in the machine's own order. docs/FORMAT.md has both formats byte by byte.
  *
  * Alignment: bundles and buffers of bytes may start at any address. `list` must be
- * aligned as uint16_t, and `written` as size_t.
+ * aligned as uint16_t, `offsets` as uint32_t, `size` and `alignment` as uint64_t,
+ * and `written` as size_t.
  *
  * Threads: the library has no variables of its own, no heap and no locks, and keeps
  * nothing from one call to the next. Calls may run at the same time. Several may
- * read one bundle; each needs a buffer and a `written` of its own, and none of them
+ * read one bundle; each needs outputs of its own, and neither these nor the bundle
  * may be written by others during the call. A call works on the stack of its
  * thread and takes less than LAYOUT_STACK_BYTES of it: that is measured and tested
  * with bundles made to go deep, and not proved.
@@ -48,22 +50,31 @@ extern "C" {
 #define LAYOUT_EDGE_LIMIT 1024
 #define LAYOUT_DEPTH_LIMIT 24
 
+/* The most fields that a struct can have: a header (7 bytes), one definition (3) that
+ * is a struct (12), and fields of 4 bytes each, of which 3 are the field's own and 1
+ * is a primitive. */
+#define LAYOUT_FIELD_LIMIT 8186
+
 /* The stack that a call may take, from where it is made. */
 #define LAYOUT_STACK_BYTES 262144
 
 /* The answers. 1 comes before all others. 2 to 6 are found while the bytes are
- * read front to back, and the first fault counts. Then come 7, 8 and 9. */
+ * read front to back, and the first fault counts. Then come 7 and 8, then, for
+ * layout_fixed_size alone, 10, 11 and 12, and 9 last. */
 enum layout_refusal {
   LAYOUT_ACCEPTED = 0,
-  LAYOUT_OVERLONG = 1,  /* overlong: more than 32,768 bytes */
-  LAYOUT_SHORT = 2,     /* short: the bytes end where more are due */
-  LAYOUT_STRANGER = 3,  /* stranger: a kind byte that may not stand there */
-  LAYOUT_OFF_SCALE = 4, /* off scale: packed or jagged over 1, edge kind over 3 */
-  LAYOUT_CROWDED = 5,   /* crowded: over 256 definitions or 1,024 edges */
-  LAYOUT_BURIED = 6,    /* buried: a type or expression due at depth 25 */
-  LAYOUT_TRAILING = 7,  /* trailing: bytes after the last record due */
-  LAYOUT_CIRCLE = 8,    /* circle: a definition leads back to itself */
-  LAYOUT_NARROW = 9     /* narrow: the output is longer than the buffer lent */
+  LAYOUT_OVERLONG = 1,    /* overlong: more than 32,768 bytes */
+  LAYOUT_SHORT = 2,       /* short: the bytes end where more are due */
+  LAYOUT_STRANGER = 3,    /* stranger: a kind byte that may not stand there */
+  LAYOUT_OFF_SCALE = 4,   /* off scale: packed or jagged over 1, edge kind over 3 */
+  LAYOUT_CROWDED = 5,     /* crowded: over 256 definitions or 1,024 edges */
+  LAYOUT_BURIED = 6,      /* buried: a type or expression due at depth 25 */
+  LAYOUT_TRAILING = 7,    /* trailing: bytes after the last record due */
+  LAYOUT_CIRCLE = 8,      /* circle: a definition leads back to itself */
+  LAYOUT_NARROW = 9,      /* narrow: the output is longer than the buffer lent */
+  LAYOUT_MISALIGNED = 10, /* misaligned: an aligned that is neither 0 nor a power of 2 */
+  LAYOUT_VARYING = 11,    /* varying: no such definition, or one without a fixed size */
+  LAYOUT_OVERSIZED = 12   /* oversized: a size or an offset over 4,294,967,295 */
 };
 
 /* Whether the bundle is sound: refusals 1 to 8 or 0. It says nothing about
@@ -90,6 +101,43 @@ uint8_t layout_renumber(const uint8_t *bundle, size_t bundle_len, uint8_t *out,
 uint8_t layout_chain(const uint8_t *bundle, size_t bundle_len, uint16_t from,
                      uint16_t to, uint16_t *list, size_t list_len,
                      size_t *written);
+
+/* The size and the alignment, in bytes, of a definition that never varies, and the
+ * offsets of its fields. `definition` is its number, from 0 in the bundle's order.
+ *
+ * A primitive has 1, 2, 4 or 8 bytes (a Char 1) and is aligned to its size. A struct
+ * puts each field at the next multiple of the field's alignment, and a packed one
+ * without gaps; a union puts its members at 0 and has the size of the largest. Both
+ * are aligned as the member with the largest alignment, and to 1 if packed or
+ * without members; an `aligned` above that replaces it, packed or not. Their size is
+ * rounded up to a multiple of their alignment. An array is its count times the size
+ * of its element and is aligned as that; its own attributes do not count. A TypeRef
+ * is the first definition of its name.
+ *
+ * The offsets are those of the struct that the definition is, or that it leads to as
+ * a TypeRef, by more TypeRefs too if each is the whole of its definition; in the
+ * order of its fields. Any other definition has none, and `*written` is 0. A list of
+ * LAYOUT_FIELD_LIMIT places is long enough for every struct.
+ *
+ * What is reached from a definition: itself, and whatever members, elements and first
+ * definitions lead to, inside enums, size-discriminated unions, jagged arrays and
+ * arrays of no elements too. Refusals 1 to 8, and then in this order:
+ *
+ *   10  something reached has an `aligned` that is neither 0 nor a power of two; an
+ *       array's own does not count
+ *   11  the bundle has no definition of this number; or something reached is an
+ *       enum, a size-discriminated union, a jagged array, a TypeRef to a name
+ *       without a definition, or an array whose size is anything but a literal that
+ *       is not negative
+ *   12  something reached has a size, or a field with an offset, over 4,294,967,295
+ *    9  there are more offsets than `offsets_len`
+ *
+ * So an offset has 32 bits and a size does not pass 4,294,967,295; an alignment is a
+ * power of two up to 2^63, and over 2^31 only where the size is 0. */
+uint8_t layout_fixed_size(const uint8_t *bundle, size_t bundle_len,
+                          size_t definition, uint32_t *offsets,
+                          size_t offsets_len, uint64_t *size,
+                          uint64_t *alignment, size_t *written);
 
 #ifdef __cplusplus
 }

@@ -72,7 +72,7 @@ static void put_around(int kind) {
   put(kind == ARRAY ? 0 : 1, kind == ARRAY ? 1 : 2);
   if (kind == ARRAY || kind == ENUM) {
     put(0x04, 1);
-    put(3, 1);
+    put(1, 1);
   }
   if (kind != ARRAY) {
     put_member(members[kind], 7, kind == ENUM || kind == SIZED_UNION);
@@ -93,6 +93,8 @@ struct shape {
   int levels;
   unsigned edges;
   size_t limit;
+  /* Whether the last name of the line has a definition, so that all of it can have a fixed size. */
+  unsigned closed;
 };
 
 /* The first definitions, of which one leads to `next`; how many they are. */
@@ -164,7 +166,7 @@ static void put_definition(const struct shape *shape, unsigned name) {
   put_type_ref(name + 1);
 }
 
-/* A line of as many definitions as there can be; the last leads to a name without definition. */
+/* A line of as many definitions as there can be; the last leads to a name without definition, or to a U8. */
 static void make_bundle(const struct shape *shape) {
   unsigned definitions, first, edge;
   size_t before = 0;
@@ -175,13 +177,19 @@ static void make_bundle(const struct shape *shape) {
   put(0, 2);
   definitions = put_start(shape, 10);
   first = definitions;
-  while (definitions < LAYOUT_DEFINITION_LIMIT) {
+  while (definitions < LAYOUT_DEFINITION_LIMIT - shape->closed) {
     before = length;
     put_definition(shape, 10 + definitions - first);
-    if (length + 6 * shape->edges > shape->limit) {
+    if (length + 6 * shape->edges + 4 * shape->closed > shape->limit) {
       length = before;
       break;
     }
+    definitions++;
+  }
+  if (shape->closed) {
+    put(0x61, 1);
+    put(10 + definitions - first, 2);
+    put(0x30, 1);
     definitions++;
   }
   for (edge = 0; edge < shape->edges; edge++) {
@@ -194,12 +202,13 @@ static void make_bundle(const struct shape *shape) {
   bytes[2] = (uint8_t)(definitions >> 8);
 }
 
-enum { ACCEPT, REPORT, RENUMBER, CHAIN, CALLS };
-static const char *const call_names[] = {"accept", "report", "renumber", "chain"};
+enum { ACCEPT, REPORT, RENUMBER, CHAIN, FIXED_SIZE, CALLS };
+static const char *const call_names[] = {"accept", "report", "renumber", "chain", "fixed size"};
 
 static uint8_t *region;
 static uint8_t *out;
 static uint16_t list[1025];
+static uint32_t offsets[LAYOUT_FIELD_LIMIT];
 static int call;
 static int measuring;
 static uint8_t answer;
@@ -207,6 +216,7 @@ static char where[256];
 
 static void make_call(void) {
   size_t written = 0;
+  uint64_t size = 0, alignment = 0;
   switch (call) {
   case ACCEPT:
     answer = layout_accept(bytes, length);
@@ -217,8 +227,11 @@ static void make_call(void) {
   case RENUMBER:
     answer = layout_renumber(bytes, length, out, REPORT_ROOM, &written);
     break;
-  default:
+  case CHAIN:
     answer = layout_chain(bytes, length, 900, 1, list, 1025, &written);
+    break;
+  default:
+    answer = layout_fixed_size(bytes, length, 0, offsets, LAYOUT_FIELD_LIMIT, &size, &alignment, &written);
   }
 }
 
@@ -294,12 +307,14 @@ static void measure(const char *name) {
   memset(lowest, PAINT, (size_t)(region + REGION - lowest));
 }
 
-static void try_bundle(const char *name) {
-  for (call = 0; call < CALLS; call++) {
+/* Makes the calls from the first one on. */
+static void try_bundle(const char *name, int first) {
+  for (call = first; call < CALLS; call++) {
     snprintf(where, sizeof where, "more than %lu bytes of stack: %s, %s\n", (unsigned long)STACK_BYTES,
              call_names[call], name);
     in_thread();
-    if (answer != 0) {
+    /* What varies has no fixed size. */
+    if (answer != 0 && (call != FIXED_SIZE || answer != LAYOUT_VARYING)) {
       fprintf(stderr, "%s refuses with %d: %s\n", call_names[call], answer, name);
       exit(2);
     }
@@ -309,12 +324,15 @@ static void try_bundle(const char *name) {
   }
 }
 
-static void try_shape(const struct shape *shape) {
+static void try_shape(struct shape *shape) {
   char name[128];
-  make_bundle(shape);
-  snprintf(name, sizeof name, "%s, %d levels of %s in %s, %u edges, %lu bytes", start_names[shape->start], shape->levels,
-           kind_names[shape->inside], kind_names[shape->outside], shape->edges, (unsigned long)length);
-  try_bundle(name);
+  for (shape->closed = 0; shape->closed < 2; shape->closed++) {
+    make_bundle(shape);
+    snprintf(name, sizeof name, "%s, %d levels of %s in %s, %u edges, %lu bytes%s", start_names[shape->start],
+             shape->levels, kind_names[shape->inside], kind_names[shape->outside], shape->edges,
+             (unsigned long)length, shape->closed ? ", closed" : "");
+    try_bundle(name, shape->closed ? FIXED_SIZE : ACCEPT);
+  }
 }
 
 static void try_kinds(struct shape *shape) {
@@ -361,7 +379,7 @@ int main(int count, char **words) {
     }
   }
   for (call = 0; measuring && call < CALLS; call++) {
-    printf("%-9s%8lu  %s\n", call_names[call], (unsigned long)most[call], most_where[call]);
+    printf("%-11s%8lu  %s\n", call_names[call], (unsigned long)most[call], most_where[call]);
   }
   if (!measuring) {
     printf("every call has enough with %lu bytes of stack\n", (unsigned long)STACK_BYTES);

@@ -104,14 +104,125 @@ static void check_byte_order(void) {
         "names as numbers");
 }
 
+/* A struct of U8, U32, U8; a TypeRef to it; an array of three of the TypeRef; and a
+ * struct without fields, aligned to 2^63. */
+enum {
+  FIXED_LEN = 74,
+  STRUCT_ALIGNED = 12, /* the places of some bytes */
+  REF_NAME = 38,
+  ARRAY_JAGGED = 53
+};
+static const uint8_t fixed[FIXED_LEN] = {
+    0x60, 4, 0, 0, 0, 0, 0,                                 /* header */
+    0x61, 1, 0, 0x41, 0, 0, 0, 0, 0, 0, 0, 0, 0, 3, 0,      /* 0: struct */
+    0x50, 5, 0, 0x30, 0x50, 6, 0, 0x32, 0x50, 7, 0, 0x30,   /* its fields */
+    0x61, 2, 0, 0x40, 1, 0,                                 /* 1: TypeRef */
+    0x61, 3, 0, 0x44, 0, 0, 0, 0, 0, 0, 0, 0, 0, 0, 4, 3,   /* 2: array */
+    0x40, 2, 0,                                             /* its element */
+    0x61, 4, 0, 0x41, 0, 0, 0, 0, 0, 0, 0, 0, 0x80, 0, 0};  /* 3: empty */
+
+/* What a call of layout_fixed_size may write, with noise in it before. */
+struct answer {
+  uint32_t offsets[5];
+  uint64_t size;
+  uint64_t alignment;
+  size_t written;
+};
+static const struct answer noise = {{77, 78, 79, 80, 81}, 82, 83, 84};
+
+static int same(const struct answer *one, const struct answer *other) {
+  return memcmp(one->offsets, other->offsets, sizeof one->offsets) == 0 &&
+         one->size == other->size && one->alignment == other->alignment &&
+         one->written == other->written;
+}
+
+/* Calls with noise in the answer and a list of so many places. */
+static uint8_t ask(const uint8_t *bundle, size_t definition, size_t offsets_len,
+                   struct answer *answer) {
+  *answer = noise;
+  return layout_fixed_size(bundle, FIXED_LEN, definition, answer->offsets, offsets_len,
+                           &answer->size, &answer->alignment, &answer->written);
+}
+
+static void check_fixed_size(void) {
+  static const struct answer of_struct = {{0, 4, 8, 80, 81}, 12, 4, 3};
+  static const struct answer of_array = {{77, 78, 79, 80, 81}, 36, 4, 0};
+  struct answer answer = noise;
+  for (size_t definition = 0; definition < 2; definition++) {
+    check(ask(fixed, definition, 5, &answer) == 0, "a longer list");
+    check(same(&answer, &of_struct), "size, alignment, offsets; the rest is kept");
+    check(ask(fixed, definition, 3, &answer) == 0, "an exact list");
+    check(same(&answer, &of_struct), "size, alignment, offsets");
+    check(ask(fixed, definition, 2, &answer) == LAYOUT_NARROW, "one place short");
+    check(same(&answer, &noise), "narrow writes nothing");
+    check(ask(fixed, definition, 0, &answer) == LAYOUT_NARROW, "no places");
+  }
+  check(ask(fixed, 2, 5, &answer) == 0 && same(&answer, &of_array), "an array");
+  answer = noise;
+  check(layout_fixed_size(fixed, FIXED_LEN, 2, NULL, 0, &answer.size, &answer.alignment,
+                          &answer.written) == 0,
+        "no list for what has no offsets");
+  check(same(&answer, &of_array), "its size and alignment");
+  check(ask(fixed, 3, 0, &answer) == 0, "a struct without fields");
+  check(answer.size == 0 && answer.alignment == (uint64_t)1 << 63 && answer.written == 0,
+        "an alignment of 64 bits");
+}
+
+/* Whether the call is refused with this number and writes nothing. */
+static void check_refused(const uint8_t *bundle, size_t definition, size_t offsets_len,
+                          uint8_t due, const char *what) {
+  struct answer answer;
+  check(ask(bundle, definition, offsets_len, &answer) == due, what);
+  check(same(&answer, &noise), "a refused call writes nothing");
+}
+
+static void check_fixed_size_refusals(void) {
+  uint8_t bundle[FIXED_LEN];
+  memcpy(bundle, fixed, FIXED_LEN);
+  check_refused(bundle, 4, 5, LAYOUT_VARYING, "no such definition");
+  check_refused(bundle, SIZE_MAX, 5, LAYOUT_VARYING, "no such definition, the greatest");
+  bundle[STRUCT_ALIGNED + 4] = 1; /* 2^32 */
+  check_refused(bundle, 0, 5, LAYOUT_OVERSIZED, "oversized");
+  check_refused(bundle, 0, 0, LAYOUT_OVERSIZED, "oversized before narrow");
+  bundle[ARRAY_JAGGED] = 1;
+  check_refused(bundle, 2, 0, LAYOUT_VARYING, "varying before oversized");
+  bundle[STRUCT_ALIGNED] = 1; /* 2^32 + 1 */
+  check_refused(bundle, 0, 5, LAYOUT_MISALIGNED, "misaligned");
+  check_refused(bundle, 2, 5, LAYOUT_MISALIGNED, "misaligned before varying");
+  check_refused(bundle, 4, 5, LAYOUT_VARYING, "no such definition beside a misaligned one");
+  bundle[REF_NAME] = 2;
+  check_refused(bundle, 0, 5, LAYOUT_CIRCLE, "circle before misaligned");
+}
+
+/* The most fields that a struct can have. */
+static void check_field_limit(void) {
+  static uint8_t bundle[LAYOUT_BYTE_LIMIT];
+  static uint32_t offsets[LAYOUT_FIELD_LIMIT];
+  static const uint8_t field[4] = {0x50, 5, 0, 0x30};
+  const size_t length = 22 + (size_t)4 * LAYOUT_FIELD_LIMIT;
+  struct answer answer = noise;
+  memcpy(bundle, fixed, 22);
+  bundle[1] = 1;
+  bundle[20] = LAYOUT_FIELD_LIMIT % 256;
+  bundle[21] = LAYOUT_FIELD_LIMIT / 256;
+  for (size_t at = 22; at < length; at += 4) memcpy(bundle + at, field, 4);
+  check(length <= LAYOUT_BYTE_LIMIT && length + 4 > LAYOUT_BYTE_LIMIT, "no room for one more");
+  check(layout_fixed_size(bundle, length, 0, offsets, LAYOUT_FIELD_LIMIT, &answer.size,
+                          &answer.alignment, &answer.written) == 0,
+        "the most fields");
+  check(answer.written == LAYOUT_FIELD_LIMIT && answer.size == LAYOUT_FIELD_LIMIT, "their number");
+  check(offsets[LAYOUT_FIELD_LIMIT - 1] == LAYOUT_FIELD_LIMIT - 1, "the last offset");
+}
+
 /* Bundle and buffer at every offset from an aligned place. */
 static void check_unaligned(void) {
-  uint64_t from[8];
+  uint64_t from[11];
   uint64_t to[8];
   for (size_t offset = 0; offset < 8; offset++) {
     uint8_t *bundle = (uint8_t *)from + offset;
     uint8_t *out = (uint8_t *)to + offset;
     uint16_t list[3];
+    struct answer answer = noise;
     size_t written = 0;
     memcpy(bundle, jagged, 24);
     check(layout_accept(bundle, 24) == 0, "unaligned accept");
@@ -122,6 +233,9 @@ static void check_unaligned(void) {
     check(written == 31 && memcmp(out, renumbered, 31) == 0, "its bytes");
     check(layout_chain(bundle, 31, 9, 6, list, 3, &written) == 0, "unaligned chain");
     check(written == 3 && list[0] == 9 && list[1] == 8 && list[2] == 6, "its names");
+    memcpy(bundle, fixed, FIXED_LEN);
+    check(ask(bundle, 1, 3, &answer) == 0, "unaligned fixed size");
+    check(answer.size == 12 && answer.written == 3 && answer.offsets[2] == 8, "its offsets");
   }
 }
 
@@ -172,6 +286,9 @@ static void *call_often(void *given) {
                            : written != 22 || memcmp(out, jagged_report, 22) != 0;
     work->wrong += layout_chain(edges, 31, 9, 6, list, 4, &written) != 0;
     work->wrong += written != 3 || list[0] != 9 || list[1] != 8 || list[2] != 6;
+    struct answer answer;
+    work->wrong += ask(fixed, 0, 5, &answer) != 0;
+    work->wrong += answer.size != 12 || answer.written != 3 || answer.offsets[2] != 8;
   }
   return NULL;
 }
@@ -206,6 +323,9 @@ int main(void) {
   check_renumber();
   check_chain();
   check_byte_order();
+  check_fixed_size();
+  check_fixed_size_refusals();
+  check_field_limit();
   check_unaligned();
   check_threads();
   printf("%d checks, %d failed\n", checks, failures);

@@ -1,6 +1,6 @@
 #!/bin/sh
-# Assembles and explains each sample and compares with what is stored beside it,
-# and each set of docs/PASS.md and compares with what its first line says.
+# Assembles and explains each sample and compares with what is stored beside it, its
+# fixed sizes too, and each set of docs/PASS.md and compares with what its first line says.
 # Usage: samples/check.sh [LIBRARY]
 # With LIBRARY, layout-text is built over that static library first (see
 # tools/layout-text/build.sh); otherwise it is built only where it is missing.
@@ -32,10 +32,22 @@ for name in $names; do
   "$tool" explain "$work/bundle" --hex > "$work/hex" || [ $? -le 2 ]
   compare "$name, in words" "samples/$name.expected" "$work/words"
   compare "$name, report" "samples/$name.report" "$work/hex"
+  status=0
+  "$tool" sizes "$work/bundle" --names "$(text $name)" > "$work/sizes" || status=$?
+  # What is refused is told in the same words as by explain.
+  due=samples/$name.sizes
+  [ "$status" -ne 2 ] || due=samples/$name.expected
+  compare "$name, sizes" "$due" "$work/sizes"
 done
+"$tool" sizes samples/sizes-fixed.layout display_frame --svg > "$work/picture" || :
+compare 'sizes-fixed, picture' samples/sizes-fixed.svg "$work/picture"
 for name in $texts; do
   "$tool" explain "samples/$name.layout" > "$work/words" || [ $? -le 2 ]
   compare "$name, from the text" "samples/$name.expected" "$work/words"
+  if [ -f "samples/$name.sizes" ]; then
+    "$tool" sizes "samples/$name.layout" > "$work/sizes" || :
+    compare "$name, sizes from the text" "samples/$name.sizes" "$work/sizes"
+  fi
   bundle $name > "$work/bundle"
   # A bundle that cannot be read cannot be shown either.
   if "$tool" show "$work/bundle" --names "samples/$name.layout" > "$work/shown.layout" 2> "$work/message"; then

@@ -1,5 +1,5 @@
 #!/bin/sh
-# Instructions of the four calls on bundles in files, counted by callgrind (valgrind). Clearing by memset is a function of its own,
+# Instructions of the calls on bundles in files, counted by callgrind (valgrind). Clearing by memset is a function of its own,
 # and stands apart: the C library clears long lists by an instruction that is counted once for each byte.
 # Usage: tools/bench/instructions.sh LIBRARY FILE..
 # `bench rows FOLDER` writes the bundles of all cases to files.
@@ -23,16 +23,16 @@ counted() { # PATTERN
     END { print sum + 0 }'
 }
 
-printf '%-46s%8s  %-9s%14s%10s%12s\n' case bytes call instructions 'a byte' cleared
+printf '%-46s%8s  %-11s%14s%10s%12s\n' case bytes call instructions 'a byte' cleared
 for file in "$@"; do
   bytes=$(wc -c < "$file")
-  for call in report accept renumber chain; do
+  for call in report accept renumber chain fixed_size; do
     valgrind --tool=callgrind --callgrind-out-file="$target/counts" --toggle-collect="layout_$call" \
       "$target/one_call" "$file" "$call" > "$target/said" 2>&1 || true
     all=$(sed -n 's/.*Collected : *//p' "$target/said")
     cleared=$(counted memset)
     own=$((all - cleared))
-    printf '%-46s%8s  %-9s%14s%10s%12s\n' "$(basename "$file")" "$bytes" "$call" "$own" \
+    printf '%-46s%8s  %-11s%14s%10s%12s\n' "$(basename "$file")" "$bytes" "$call" "$own" \
       "$(awk "BEGIN { printf \"%.1f\", $own / $bytes }")" "$cleared"
   done
 done

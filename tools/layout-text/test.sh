@@ -21,6 +21,7 @@ run() {
   "$target/$name" --quiet --test-threads 1
 }
 run notation
+run sizes
 if [ -f tools/oracle/target/liblayout_oracle.rlib ]; then
   run random -L tools/oracle/target --extern layout_oracle
 fi

@@ -16,6 +16,8 @@ pub use refusal::Refusal;
 pub const BYTE_LIMIT: usize = 32_768;
 /// No chain is longer: 1,024 edges join 1,025 names.
 pub const CHAIN_LIMIT: usize = 1_025;
+/// No struct has more fields: 32,768 bytes hold 22 of header, definition and struct, and 4 for each field.
+pub const FIELD_LIMIT: usize = 8_186;
 /// The stack that a call may take, from where it is made; as in `include/layout.h`, measured and tested, and not proved.
 pub const STACK_BYTES: usize = 262_144;
 /// No report is longer: a violation belongs to a reference, a field or an array of
@@ -51,7 +53,39 @@ mod calls {
             list_len: usize,
             written: *mut usize,
         ) -> u8;
+        pub fn layout_fixed_size(
+            bundle: *const u8,
+            bundle_len: usize,
+            definition: usize,
+            offsets: *mut u32,
+            offsets_len: usize,
+            size: *mut u64,
+            alignment: *mut u64,
+            written: *mut usize,
+        ) -> u8;
     }
+}
+
+/// What `fixed_size` gives besides the offsets.
+#[derive(Clone, Copy, Debug, PartialEq, Eq)]
+pub struct FixedSize {
+    /// In bytes, 4,294,967,295 at most.
+    pub size: u64,
+    /// A power of two, 2^63 at most.
+    pub alignment: u64,
+    /// How many offsets there are: the fields of a struct, 0 for any other type.
+    pub written: usize,
+}
+
+/// Size, alignment and field offsets of a definition.
+#[derive(Clone, Debug, PartialEq, Eq)]
+pub struct FixedLayout {
+    /// As in `FixedSize`.
+    pub size: u64,
+    /// As in `FixedSize`.
+    pub alignment: u64,
+    /// One for each field of the struct that the definition is, or leads to as a TypeRef.
+    pub offsets: Vec<u32>,
 }
 
 /// Whether the bundle is sound. Violations are no matter of this call.
@@ -111,6 +145,35 @@ pub fn chain(bundle: &[u8], from: u16, to: u16, list: &mut [u16]) -> Result<usiz
     outcome(number, written)
 }
 
+/// Size and alignment of the definition of that number, from 0, if they are fixed. The offsets of its fields stand at
+/// the start of `offsets` then.
+pub fn fixed_size(
+    bundle: &[u8],
+    definition: usize,
+    offsets: &mut [u32],
+) -> Result<FixedSize, Refusal> {
+    let (mut size, mut alignment, mut written) = (0, 0, 0);
+    // As in `report`; the list's length counts offsets, not bytes.
+    let number = unsafe {
+        calls::layout_fixed_size(
+            bundle.as_ptr(),
+            bundle.len(),
+            definition,
+            offsets.as_mut_ptr(),
+            offsets.len(),
+            &mut size,
+            &mut alignment,
+            &mut written,
+        )
+    };
+    let found = FixedSize {
+        size,
+        alignment,
+        written,
+    };
+    outcome(number, found)
+}
+
 /// The report, in a buffer that grows as long as it is too short.
 pub fn report_vec(bundle: &[u8]) -> Result<Vec<u8>, Refusal> {
     let mut out = vec![0; FIRST_REPORT_LENGTH];
@@ -140,6 +203,18 @@ pub fn chain_vec(bundle: &[u8], from: u16, to: u16) -> Result<Vec<u16>, Refusal>
     let written = chain(bundle, from, to, &mut list)?;
     list.truncate(written);
     Ok(list)
+}
+
+/// Size, alignment and field offsets of the definition of that number, if they are fixed.
+pub fn fixed_size_vec(bundle: &[u8], definition: usize) -> Result<FixedLayout, Refusal> {
+    let mut offsets = vec![0; FIELD_LIMIT];
+    let found = fixed_size(bundle, definition, &mut offsets)?;
+    offsets.truncate(found.written);
+    Ok(FixedLayout {
+        size: found.size,
+        alignment: found.alignment,
+        offsets,
+    })
 }
 
 fn outcome<T>(number: u8, value: T) -> Result<T, Refusal> {

@@ -14,10 +14,13 @@ pub enum Refusal {
     Trailing = 7,
     Circle = 8,
     Narrow = 9,
+    Misaligned = 10,
+    Varying = 11,
+    Oversized = 12,
 }
 
 impl Refusal {
-    pub const ALL: [Refusal; 9] = [
+    pub const ALL: [Refusal; 12] = [
         Refusal::Overlong,
         Refusal::Short,
         Refusal::Stranger,
@@ -27,6 +30,9 @@ impl Refusal {
         Refusal::Trailing,
         Refusal::Circle,
         Refusal::Narrow,
+        Refusal::Misaligned,
+        Refusal::Varying,
+        Refusal::Oversized,
     ];
 
     /// The refusal of that number; none for 0, which is an acceptance.
@@ -50,6 +56,9 @@ impl Refusal {
             Refusal::Trailing => "trailing",
             Refusal::Circle => "circle",
             Refusal::Narrow => "narrow",
+            Refusal::Misaligned => "misaligned",
+            Refusal::Varying => "varying",
+            Refusal::Oversized => "oversized",
         }
     }
 
@@ -64,6 +73,9 @@ impl Refusal {
             Refusal::Trailing => "bytes after the last record due",
             Refusal::Circle => "a definition leads, by its TypeRefs, back to itself",
             Refusal::Narrow => "the output is longer than the buffer lent for it",
+            Refusal::Misaligned => "an aligned that is neither 0 nor a power of two is reached",
+            Refusal::Varying => "no such definition, or a part without a fixed size is reached",
+            Refusal::Oversized => "a part is reached with a size or offset over 4,294,967,295",
         }
     }
 }

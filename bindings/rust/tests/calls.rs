@@ -1,7 +1,8 @@
 //! Each call on bundles of a few bytes: answers, refusals, buffers kept.
 
 use layout::{
-    accept, chain, chain_vec, renumber, renumber_vec, report, report_vec, Refusal, STACK_BYTES,
+    accept, chain, chain_vec, fixed_size, fixed_size_vec, renumber, renumber_vec, report,
+    report_vec, FixedLayout, FixedSize, Refusal, BYTE_LIMIT, FIELD_LIMIT, STACK_BYTES,
 };
 
 /// A jagged array of three U8 and its report.
@@ -69,6 +70,8 @@ fn each_refusal_has_its_number() {
         assert_eq!(report(&bytes, &mut [0; 64]), Err(refusal));
         assert_eq!(renumber(&bytes, &mut [0; 64]), Err(refusal));
         assert_eq!(chain(&bytes, 1, 1, &mut [0; 64]), Err(refusal));
+        assert_eq!(fixed_size(&bytes, 0, &mut [0; 64]), Err(refusal));
+        assert_eq!(fixed_size(&bytes, usize::MAX, &mut []), Err(refusal));
     }
 }
 
@@ -143,6 +146,182 @@ fn chain_is_narrow_only_where_there_is_one() {
     assert_eq!(list, [1, 2, 3, 77]);
 }
 
+/// A type that starts with its kind, packed and aligned, and goes on with `rest`.
+fn attributed(kind: u8, packed: u8, aligned: u64, rest: &[u8]) -> Vec<u8> {
+    [&[kind, packed], &aligned.to_le_bytes()[..], rest].concat()
+}
+
+/// A struct (41) or union (42) with members of these types.
+fn group(kind: u8, packed: u8, aligned: u64, members: &[&[u8]]) -> Vec<u8> {
+    let mut rest = (members.len() as u16).to_le_bytes().to_vec();
+    for member in members {
+        rest.extend([kind + 0x0F, 9, 0]);
+        rest.extend(*member);
+    }
+    attributed(kind, packed, aligned, &rest)
+}
+
+/// An array of `count` elements, its size a literal U64.
+fn array(count: u64, element: &[u8]) -> Vec<u8> {
+    let rest = [&[0, 1], &count.to_le_bytes()[..], element].concat();
+    attributed(0x44, 0, 0, &rest)
+}
+
+/// Definitions of the names 1, 2 and so on, and no edges.
+fn defined(types: &[&[u8]]) -> Vec<u8> {
+    let mut bytes = vec![0x60, types.len() as u8, 0, 0, 0, 0, 0];
+    for (place, body) in types.iter().enumerate() {
+        bytes.extend([0x61, place as u8 + 1, 0]);
+        bytes.extend(*body);
+    }
+    bytes
+}
+
+const U8: &[u8] = &[0x30];
+const U32: &[u8] = &[0x32];
+const F64: &[u8] = &[0x3B];
+
+/// U8, U32, U8 as a struct; a TypeRef to it; a union; an array of the struct; a packed struct.
+fn fixed() -> Vec<u8> {
+    defined(&[
+        &group(0x41, 0, 0, &[U8, U32, U8]),
+        &[0x40, 1, 0],
+        &group(0x42, 0, 16, &[U32, &array(3, &[0x40, 2, 0])]),
+        &array(5, &[0x40, 1, 0]),
+        &group(0x41, 1, 8, &[U8, U32, F64]),
+    ])
+}
+
+fn found(size: u64, alignment: u64, offsets: &[u32]) -> Result<FixedLayout, Refusal> {
+    Ok(FixedLayout {
+        size,
+        alignment,
+        offsets: offsets.to_vec(),
+    })
+}
+
+#[test]
+fn fixed_sizes_with_their_offsets() {
+    let bytes = fixed();
+    assert_eq!(fixed_size_vec(&bytes, 0), found(12, 4, &[0, 4, 8]));
+    assert_eq!(fixed_size_vec(&bytes, 1), found(12, 4, &[0, 4, 8]));
+    assert_eq!(fixed_size_vec(&bytes, 2), found(48, 16, &[]));
+    assert_eq!(fixed_size_vec(&bytes, 3), found(60, 4, &[]));
+    assert_eq!(fixed_size_vec(&bytes, 4), found(16, 8, &[0, 1, 5]));
+    let empty = defined(&[&group(0x41, 0, 1 << 63, &[])]);
+    assert_eq!(fixed_size_vec(&empty, 0), found(0, 1 << 63, &[]));
+    let largest = defined(&[&array(u64::from(u32::MAX), U8)]);
+    assert_eq!(fixed_size_vec(&largest, 0), found(4_294_967_295, 1, &[]));
+}
+
+#[test]
+fn offsets_fill_their_length_and_keep_the_rest() {
+    let bytes = fixed();
+    let due = Ok(FixedSize {
+        size: 12,
+        alignment: 4,
+        written: 3,
+    });
+    let mut offsets = [77; 5];
+    assert_eq!(fixed_size(&bytes, 0, &mut offsets), due);
+    assert_eq!(offsets, [0, 4, 8, 77, 77]);
+    let mut offsets = [77; 3];
+    assert_eq!(fixed_size(&bytes, 1, &mut offsets), due);
+    assert_eq!(offsets, [0, 4, 8]);
+    let mut offsets = [77; 2];
+    assert_eq!(fixed_size(&bytes, 0, &mut offsets), Err(Refusal::Narrow));
+    assert_eq!(offsets, [77; 2]);
+    assert_eq!(fixed_size(&bytes, 1, &mut []), Err(Refusal::Narrow));
+    assert_eq!(
+        fixed_size(&bytes, 3, &mut []).map(|found| found.size),
+        Ok(60)
+    );
+}
+
+#[test]
+fn no_struct_has_more_fields_than_the_limit() {
+    let most = defined(&[&group(0x41, 0, 0, &vec![U8; FIELD_LIMIT])]);
+    let length = most.len();
+    assert!(
+        length <= BYTE_LIMIT && length + 4 > BYTE_LIMIT,
+        "{length} bytes"
+    );
+    let offsets: Vec<u32> = (0..FIELD_LIMIT as u32).collect();
+    assert_eq!(
+        fixed_size_vec(&most, 0),
+        found(FIELD_LIMIT as u64, 1, &offsets)
+    );
+    let more = defined(&[&group(0x41, 0, 0, &vec![U8; FIELD_LIMIT + 1])]);
+    assert_eq!(fixed_size_vec(&more, 0), Err(Refusal::Overlong));
+}
+
+#[test]
+fn each_refusal_of_a_fixed_size() {
+    let misaligned = group(0x41, 0, 3, &[]);
+    let size_union = attributed(0x45, 0, 0, &[0, 0]);
+    let oversized = array(1 << 32, U8);
+    let refused = |types: &[&[u8]]| fixed_size(&defined(types), 0, &mut [0; 1]).unwrap_err();
+    assert_eq!(refused(&[&misaligned]), Refusal::Misaligned);
+    assert_eq!(refused(&[&size_union]), Refusal::Varying);
+    assert_eq!(refused(&[&[0x40, 7, 0]]), Refusal::Varying);
+    assert_eq!(refused(&[&oversized]), Refusal::Oversized);
+    // A size of -1 and one that is a field.
+    let negative = attributed(0x44, 0, 0, &[0, 8, 0xFF, 0x30]);
+    assert_eq!(refused(&[&negative]), Refusal::Varying);
+    let by_field = attributed(0x44, 0, 0, &[0, 9, 1, 0, 0x30]);
+    assert_eq!(refused(&[&by_field]), Refusal::Varying);
+    // An offset, and a size only when it is rounded up.
+    let far = group(0x41, 0, 0, &[&array(u64::from(u32::MAX), U8), U8, U8]);
+    assert_eq!(refused(&[&far]), Refusal::Oversized);
+    let rounded = group(0x42, 0, 2, &[&array(u64::from(u32::MAX), U8)]);
+    assert_eq!(refused(&[&rounded]), Refusal::Oversized);
+    // An array's own aligned does not count, and its element does, even of no elements.
+    let rest = [&[0, 4, 0][..], U8].concat();
+    let plain = defined(&[&attributed(0x44, 1, 3, &rest)]);
+    assert_eq!(fixed_size_vec(&plain, 0), found(0, 1, &[]));
+    assert_eq!(refused(&[&array(0, &misaligned)]), Refusal::Misaligned);
+    assert_eq!(refused(&[&array(0, &size_union)]), Refusal::Varying);
+    assert_eq!(refused(&[&array(0, &oversized)]), Refusal::Oversized);
+}
+
+#[test]
+fn refusals_of_a_fixed_size_come_in_order() {
+    let misaligned = group(0x41, 0, 3, &[]);
+    let size_union = attributed(0x45, 0, 0, &[0, 0]);
+    let oversized = array(1 << 32, U8);
+    let refused = |members: &[&[u8]], more: &[u8]| {
+        let bytes = defined(&[&group(0x41, 0, 0, members), more]);
+        fixed_size(&bytes, 0, &mut [77; 1]).unwrap_err()
+    };
+    let all: [&[u8]; 3] = [&oversized, &size_union, &misaligned];
+    let circle = [0x40, 2, 0];
+    assert_eq!(refused(&all, &circle), Refusal::Circle);
+    assert_eq!(refused(&all, U8), Refusal::Misaligned);
+    assert_eq!(refused(&all[..2], U8), Refusal::Varying);
+    assert_eq!(refused(&[&oversized, U8], U8), Refusal::Oversized);
+    assert_eq!(refused(&[U8, U8], U8), Refusal::Narrow);
+    // Inside what varies, and its own aligned.
+    let deep = attributed(
+        0x45,
+        0,
+        0,
+        &[&[1, 0, 0x53][..], &[0; 10], &misaligned].concat(),
+    );
+    assert_eq!(refused(&[&deep], U8), Refusal::Misaligned);
+    let own = attributed(0x45, 0, 6, &[0, 0]);
+    assert_eq!(refused(&[&own], U8), Refusal::Misaligned);
+}
+
+#[test]
+fn a_number_without_a_definition_varies() {
+    let misaligned = defined(&[&group(0x41, 0, 3, &[])]);
+    for definition in [1, 2, 1 << 16, 1 << 32, usize::MAX] {
+        let refused = fixed_size_vec(&misaligned, definition);
+        assert_eq!(refused, Err(Refusal::Varying));
+    }
+    assert_eq!(fixed_size_vec(&edges(&[]), 0), Err(Refusal::Varying));
+}
+
 #[test]
 fn refusals_have_numbers_words_and_meanings() {
     for (place, refusal) in Refusal::ALL.into_iter().enumerate() {
@@ -151,7 +330,7 @@ fn refusals_have_numbers_words_and_meanings() {
         assert!(!refusal.meaning().is_empty());
     }
     assert_eq!(Refusal::from_number(0), None);
-    assert_eq!(Refusal::from_number(10), None);
+    assert_eq!(Refusal::from_number(13), None);
     assert_eq!(Refusal::OffScale.word(), "off scale");
     assert_eq!(
         Refusal::Circle.to_string(),
@@ -183,8 +362,12 @@ fn a_thread_with_the_stated_stack_is_enough() {
         let bundle = levels();
         assert_eq!(accept(&bundle), Ok(()));
         assert_eq!(report_vec(&bundle), Ok(vec![0x70, 0, 0]));
-        assert_eq!(renumber_vec(&bundle).map(|bytes| bytes.len()), Ok(bundle.len()));
+        assert_eq!(
+            renumber_vec(&bundle).map(|bytes| bytes.len()),
+            Ok(bundle.len())
+        );
         assert_eq!(chain_vec(&bundle, 1, 2), Ok(vec![]));
+        assert_eq!(fixed_size_vec(&bundle, 0), found(1, 1, &[0]));
     };
     thread.spawn(calls).unwrap().join().unwrap();
 }

@@ -1,6 +1,6 @@
 /* Makes one call of the library on a bundle in a file, so that its instructions can be counted.
- * Usage: one_call FILE accept|report|renumber|chain
- * The chain goes from the first edge's start to the last edge's end. */
+ * Usage: one_call FILE accept|report|renumber|chain|fixed_size
+ * The chain goes from the first edge's start to the last edge's end; the fixed size is that of the first definition. */
 #include "bundle_file.h"
 
 static int call_of(const char *word) {
@@ -11,11 +11,22 @@ static int call_of(const char *word) {
   return call;
 }
 
+static int fixed_size(struct bundle *bundle) {
+  static uint32_t offsets[LAYOUT_FIELD_LIMIT];
+  uint64_t size, alignment;
+  return layout_fixed_size(bundle->bytes, bundle->length, 0, offsets, LAYOUT_FIELD_LIMIT, &size, &alignment,
+                           &bundle->written);
+}
+
 int main(int count, char **words) {
   struct bundle bundle;
   int call;
+  if (count == 3 && strcmp(words[2], "fixed_size") == 0) {
+    bundle = bundle_of_file(words[1]);
+    return fixed_size(&bundle);
+  }
   if (count != 3 || (call = call_of(words[2])) == NO_CALL) {
-    fprintf(stderr, "usage: one_call FILE accept|report|renumber|chain\n");
+    fprintf(stderr, "usage: one_call FILE accept|report|renumber|chain|fixed_size\n");
     return 2;
   }
   bundle = bundle_of_file(words[1]);

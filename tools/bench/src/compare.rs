@@ -1,6 +1,7 @@
 //! The library's answers against the oracle's, on limit cases and random bundles.
 
 use crate::exchange::exchanged;
+use crate::fixed;
 use layout::Refusal;
 use layout_oracle::bundle::{encode, Name};
 use layout_oracle::compare::{compare_answers, hex};
@@ -40,7 +41,11 @@ pub fn compare(seed: u64, count: usize) -> bool {
             return false;
         }
     }
-    println!("no difference in report, accept, renumber and chain, with exchanged names too");
+    if !fixed::compare(seed, count) {
+        return false;
+    }
+    println!("no difference in report, accept, renumber, chain and fixed_size, with exchanged");
+    println!("names too");
     true
 }
 

@@ -27,6 +27,28 @@ pub fn exchanged(bytes: &[u8], random: &mut Random) -> Result<(), &'static str> 
     renumbered_report(bytes, &plain, &numbering(&names))
 }
 
+/// Whether fixed sizes stay the same under exchanges of names, of which one sends 0 to
+/// another name, and in the renumbered bundle.
+pub fn exchanged_sizes(bytes: &[u8], numbers: &[usize], random: &mut Random) -> bool {
+    let (Ok(found), Ok(plain)) = (scan(bytes), layout::renumber_vec(bytes)) else {
+        return true;
+    };
+    let names = distinct(bytes, &found.names);
+    let mut maps = vec![exchange(&names, random)];
+    if !names.is_empty() {
+        let name = random.pick(&names);
+        maps.push(HashMap::from([(name, 0), (0, name)]));
+    }
+    let mut others = vec![plain];
+    others.extend(maps.iter().map(|map| put_through(bytes, &found.names, map)));
+    numbers.iter().all(|number| {
+        let before = layout::fixed_size_vec(bytes, *number);
+        others
+            .iter()
+            .all(|other| layout::fixed_size_vec(other, *number) == before)
+    })
+}
+
 fn renumbered_report(
     bytes: &[u8],
     plain: &[u8],

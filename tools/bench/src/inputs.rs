@@ -9,6 +9,7 @@ pub const PLAIN: Attributes = Attributes {
 };
 pub const U8: Type = Type::Primitive(0x30);
 pub const U16: Type = Type::Primitive(0x31);
+pub const U64: Type = Type::Primitive(0x33);
 const U32: Type = Type::Primitive(0x32);
 const F32: Type = Type::Primitive(0x3A);
 const CHAR: Type = Type::Primitive(0x38);
@@ -70,6 +71,8 @@ const COUNT: Name = 1_001;
 const KIND: Name = 1_002;
 const NOTE: Name = 1_003;
 const FIRST_FIELD: Name = 1_010;
+
+const FRAMES: Name = 1_000;
 
 const DEVICES: Name = 20;
 
@@ -184,6 +187,34 @@ fn add_edges(number: Name, edges: &mut Vec<Edge>) {
         edge(own.frame, other.head, 1);
         edge(own.frame, other.attachment, 1);
     }
+}
+
+/// 81 definitions that never vary: twenty frames of one winch each, and a record of all
+/// frames, which comes first.
+pub fn fixed_frames(_: usize) -> Bundle {
+    let plain = |count: Name| (0..count).map(|at| (FIRST_FIELD + at, U32));
+    let mut bundle = Bundle::default();
+    let to = |name| (name, Type::TypeRef(name));
+    let frames = (0..DEVICES).map(|number| to(device(number).frame));
+    let mut definitions = vec![(FRAMES, structure(frames.collect()))];
+    for number in 0..DEVICES {
+        let own = device(number);
+        let mut head: Vec<(Name, Type)> = plain(4).collect();
+        head.push((COUNT, U16));
+        let mut record: Vec<(Name, Type)> = plain(3).collect();
+        record.extend([(KIND, U8), (own.tension, F32)]);
+        let mut frame = vec![(COUNT, U16), (KIND, U8)];
+        frame.extend([to(own.head), to(own.record), to(own.samples)]);
+        frame.extend([(NOTE, array(literal(24), CHAR))]);
+        definitions.push((own.head, structure(head)));
+        definitions.push((own.record, structure(record)));
+        definitions.push((own.samples, array(literal(16), U16)));
+        definitions.push((own.frame, structure(frame)));
+    }
+    for (name, body) in definitions {
+        bundle.definitions.push(Definition { name, body });
+    }
+    bundle
 }
 
 /// A worst case of about this many bytes, exactly so for the largest.

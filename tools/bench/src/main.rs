@@ -3,6 +3,8 @@
 
 mod compare;
 mod exchange;
+mod fixed;
+mod fixed_rows;
 mod inputs;
 mod measure;
 mod shapes;
@@ -110,7 +112,10 @@ const NAME_WIDTH: usize = 44;
 
 const USAGE: &str = "usage:
   bench [--quick]            times of the library and the original
+  bench fixed                the times of fixed sizes alone
   bench compare SEED COUNT   the library's answers against the oracle's
+  bench reprc SEED COUNT     the library's fixed sizes against those of rustc, which
+                             tools/oracle/repr-c.sh gives on standard input
   bench rows FOLDER          the bundle of each case as a file, for the programs in c/
   bench original NUMBER      the original's time and report for one case";
 
@@ -120,9 +125,14 @@ fn main() -> ExitCode {
     let done = match words[..] {
         [] => Some(times(false)),
         ["--quick"] => Some(times(true)),
+        ["fixed"] => Some(fixed_rows::print()),
         ["compare", seed, count] => {
             let numbers = seed.parse().ok().zip(count.parse().ok());
             numbers.map(|(seed, count)| compare::compare(seed, count))
+        }
+        ["reprc", seed, count] => {
+            let numbers = seed.parse().ok().zip(count.parse().ok());
+            numbers.map(|(seed, count)| fixed::compare_repr_c(seed, count))
         }
         ["rows", folder] => Some(write_rows(folder)),
         ["original", number] => number.parse().ok().map(original_alone),
@@ -144,7 +154,8 @@ fn times(quick: bool) -> bool {
     let same = print_reports(quick);
     print_growth();
     print_other_calls();
-    same
+    println!();
+    fixed_rows::print() && same
 }
 
 fn cases() -> Vec<(&'static str, Bundle)> {
@@ -175,6 +186,7 @@ fn write_rows(folder: &str) -> bool {
     };
     cases()
         .into_iter()
+        .chain(fixed_rows::cases())
         .enumerate()
         .map(write)
         .all(|written| written.is_ok())

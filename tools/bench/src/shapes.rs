@@ -14,7 +14,7 @@ const MISSING: Name = 65_000;
 const FIRST: Name = 1_000;
 const MANY: Name = 250;
 
-fn define(name: Name, body: Type) -> Definition {
+pub fn define(name: Name, body: Type) -> Definition {
     Definition { name, body }
 }
 
@@ -57,13 +57,13 @@ fn enumeration(tag: Expr, list: Vec<Member>) -> Type {
 }
 
 /// Fields of this type with names of their own.
-fn fields(count: usize, body: Type) -> Vec<(Name, Type)> {
+pub fn fields(count: usize, body: Type) -> Vec<(Name, Type)> {
     let field = |number: usize| (FIRST + number as Name, body.clone());
     (0..count).map(field).collect()
 }
 
 /// The largest bundle of the family that fits, and a definition that fills the rest.
-fn largest(bytes: usize, family: &dyn Fn(usize) -> Bundle) -> Bundle {
+pub fn largest(bytes: usize, family: &dyn Fn(usize) -> Bundle) -> Bundle {
     const FILLING: usize = 15 + 20;
     let fits = |count: usize| size(&family(count)) + FILLING <= bytes;
     let mut count = 1;
@@ -81,7 +81,7 @@ fn largest(bytes: usize, family: &dyn Fn(usize) -> Bundle) -> Bundle {
     bundle
 }
 
-fn bundle(definitions: Vec<Definition>) -> Bundle {
+pub fn bundle(definitions: Vec<Definition>) -> Bundle {
     Bundle {
         current: OWNER,
         definitions,

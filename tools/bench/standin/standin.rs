@@ -1,7 +1,8 @@
-//! The four calls of include/layout.h over the oracle's second reading of the
+//! The calls of include/layout.h over the oracle's second reading of the
 //! paper. It stands in for the proved library until that can be linked.
 
 use layout_oracle::bundle::{encode, Bundle, Refusal, OUTPUT_TOO_SMALL};
+use layout_oracle::fixed::fixed_answer;
 use layout_oracle::report::report_bytes;
 use layout_oracle::{reader, reference};
 
@@ -100,4 +101,30 @@ pub unsafe extern "C" fn layout_chain(
     let result = reader::read(input_slice(bundle, bundle_len))
         .map(|tree| reference::chain(&tree, from, to).unwrap_or_default());
     answer(result, output_slice(list, list_len), &mut *written)
+}
+
+/// # Safety
+/// See include/layout.h.
+#[no_mangle]
+pub unsafe extern "C" fn layout_fixed_size(
+    bundle: *const u8,
+    bundle_len: usize,
+    definition: usize,
+    offsets: *mut u32,
+    offsets_len: usize,
+    size: *mut u64,
+    alignment: *mut u64,
+    written: *mut usize,
+) -> u8 {
+    let found = match fixed_answer(input_slice(bundle, bundle_len), definition, offsets_len) {
+        Err(refusal) => return refusal,
+        Ok(found) => found,
+    };
+    *size = found.size;
+    *alignment = found.alignment;
+    answer(
+        Ok(found.offsets),
+        output_slice(offsets, offsets_len),
+        &mut *written,
+    )
 }

@@ -5,7 +5,7 @@ use crate::names::Names;
 use crate::read::{read, Fault};
 use crate::report::{Report, Violation};
 use crate::tree::*;
-use crate::words;
+use crate::words::{self, counted};
 use layout::Refusal;
 
 /// Title of each violation type, from 1 on.
@@ -33,9 +33,17 @@ pub struct Source {
 }
 
 impl Source {
-    fn definition(&self, place: usize) -> String {
+    pub fn definition(&self, place: usize) -> String {
         match self.lines.get(place) {
             Some(line) => format!("definition {place} (line {line})"),
+            None => format!("definition {place}"),
+        }
+    }
+
+    /// The same where parentheses stand around it.
+    pub fn definition_and_line(&self, place: usize) -> String {
+        match self.lines.get(place) {
+            Some(line) => format!("definition {place}, line {line}"),
             None => format!("definition {place}"),
         }
     }
@@ -132,13 +140,6 @@ fn explain_violations<'a>(
         format!("\n{}. {words}", place + 1)
     });
     Ok(Box::new(std::iter::once(head).chain(each)))
-}
-
-fn counted(count: usize, what: &str) -> String {
-    match count {
-        1 => format!("1 {what}"),
-        _ => format!("{count} {what}s"),
-    }
 }
 
 /// Whether the definition with the violation's number can have it.

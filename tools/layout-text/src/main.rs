@@ -1,9 +1,10 @@
-//! Bundles as text: `assemble`, `show` and `explain`. README.md describes them.
+//! Bundles as text: `assemble`, `show`, `explain` and `sizes`. README.md describes them.
 
 mod files;
 
 use files::{FileError, Input};
 use layout::Refusal;
+use layout_text::circle::circle;
 use layout_text::encode::encode;
 use layout_text::explain::{explain, Parts, Source};
 use layout_text::names::Names;
@@ -12,7 +13,8 @@ use layout_text::read::read;
 use layout_text::recognise::is_text;
 use layout_text::report::{self, Report};
 use layout_text::show::show;
-use layout_text::tree::BYTE_LIMIT;
+use layout_text::sizes::Sizes;
+use layout_text::tree::{Bundle, BYTE_LIMIT};
 use layout_text::words::cut;
 use std::io::{self, Write};
 use std::process::ExitCode;
@@ -22,18 +24,23 @@ const USAGE: &str = "usage:
   layout-text show     [BYTES] [--names TEXT] [-o TEXT]
   layout-text explain  [FILE] [--text | --bytes] [--names TEXT] [--hex]
                        [--report REPORT [--as-given]]
+  layout-text sizes    [FILE [NAME]] [--text | --bytes] [--names TEXT]
+                       [--svg [-o PICTURE]]
   layout-text help
 
 An option may be given once, and --text and --bytes exclude each other.
-A file that is left out, or `-`, is standard input or output. explain takes FILE as
-text if its name ends in .layout, or if it does not start with hex 60 and is UTF-8
-without control characters; --text and --bytes say otherwise. REPORT is a report's
+A file that is left out, or `-`, is standard input or output. explain and sizes take
+FILE as text if its name ends in .layout, or if it does not start with hex 60 and is
+UTF-8 without control characters; --text and --bytes say otherwise. REPORT is a report's
 bytes or its hexadecimal digits; one that is not FILE's is refused. With --as-given it
-is not compared.
+is not compared. sizes prints the size, the alignment and the fields of every definition
+that has a fixed size, and says why the others have none; with NAME, a word or a number
+as #17, of that definition alone. --svg draws that one.
 A text may have 4,194,304 bytes.
 Exit codes: 0 done, and for explain no violation; 1 violations; 2 a bundle that is
-refused; 3 a damaged text, a report that is not the bundle's, a file that cannot be
-read or written, or a wrong command.
+refused, or a NAME without a fixed size; 3 a damaged text, a report that is not the
+bundle's, a NAME without a definition, a file that cannot be read or written, or a
+wrong command.
 ";
 
 /// The end of each message about a wrong command.
@@ -60,12 +67,15 @@ type Failure = (String, u8);
 #[derive(Default)]
 struct Arguments {
     file: Option<String>,
+    /// The second word that is no option: a definition's name.
+    name: Option<String>,
     out: Option<String>,
     names: Option<String>,
     report: Option<String>,
     text: Option<bool>,
     as_given: bool,
     hex: bool,
+    svg: bool,
     help: bool,
 }
 
@@ -89,6 +99,7 @@ fn main() -> ExitCode {
         "assemble" => (run_assemble, &["-o"]),
         "show" => (run_show, &["-o", "--names"]),
         "explain" => (run_explain, &EXPLAIN_OPTIONS),
+        "sizes" => (run_sizes, &SIZES_OPTIONS),
         "help" | "-h" | "--help" => (run_help, &["help"]),
         _ => {
             note(&format!("`{}` is no verb; {MORE}", cut(&verb)));
@@ -117,6 +128,9 @@ const EXPLAIN_OPTIONS: [&str; 6] = [
     "--hex",
 ];
 
+/// `NAME` allows a second word that is no option.
+const SIZES_OPTIONS: [&str; 6] = ["--names", "--text", "--bytes", "--svg", "-o", "NAME"];
+
 /// A line on standard error. If even that cannot be written, the exit code tells.
 fn note(message: &str) {
     if !message.is_empty() {
@@ -126,9 +140,17 @@ fn note(message: &str) {
 
 fn arguments(words: impl Iterator<Item = String>, allowed: &[&str]) -> Result<Arguments, Failure> {
     let found = options(words, allowed).and_then(|found| {
-        match found.as_given && found.report.is_none() && !found.help {
-            true => Err("`--as-given` is given without `--report`".to_string()),
-            false => Ok(found),
+        let picture = allowed.contains(&"--svg");
+        let missing = match &found {
+            _ if found.help => None,
+            _ if found.as_given && found.report.is_none() => Some(("--as-given", "--report")),
+            _ if found.svg && found.name.is_none() => Some(("--svg", "NAME")),
+            _ if picture && found.out.is_some() && !found.svg => Some(("-o", "--svg")),
+            _ => None,
+        };
+        match missing {
+            Some((word, other)) => Err(format!("`{word}` is given without `{other}`")),
+            None => Ok(found),
         }
     });
     found.map_err(|fault| (format!("{fault}; {MORE}"), FAILED))
@@ -136,7 +158,7 @@ fn arguments(words: impl Iterator<Item = String>, allowed: &[&str]) -> Result<Ar
 
 fn options(mut words: impl Iterator<Item = String>, allowed: &[&str]) -> Result<Arguments, String> {
     let mut found = Arguments::default();
-    let (mut hex, mut as_given) = (None, None);
+    let (mut hex, mut as_given, mut svg) = (None, None, None);
     while let Some(word) = words.next() {
         let word = word.as_str();
         let help = ["-h", "--help"].contains(&word);
@@ -151,15 +173,20 @@ fn options(mut words: impl Iterator<Item = String>, allowed: &[&str]) -> Result<
             "--report" => once(&mut found.report, value()?, word)?,
             "--as-given" => once(&mut as_given, (), word)?,
             "--hex" => once(&mut hex, (), word)?,
+            "--svg" => once(&mut svg, (), word)?,
             "--text" | "--bytes" => text_or_bytes(&mut found.text, word)?,
             _ if help => found.help = true,
             _ if found.file.is_none() && !allowed.contains(&"help") => {
                 found.file = Some(word.to_string());
             }
+            _ if found.name.is_none() && allowed.contains(&"NAME") => {
+                found.name = Some(word.to_string());
+            }
             _ => return Err(format!("`{}` is one argument too many", cut(word))),
         }
     }
     found.hex = hex.is_some();
+    found.svg = svg.is_some();
     found.as_given = as_given.is_some();
     Ok(found)
 }
@@ -327,11 +354,7 @@ fn run_show(arguments: &Arguments) -> Result<u8, Failure> {
 }
 
 fn run_explain(arguments: &Arguments) -> Result<u8, Failure> {
-    let (bytes, own) = set_from(arguments)?;
-    let source = match arguments.names.as_deref() {
-        None => own,
-        given => source_from(given, &bytes)?,
-    };
+    let (bytes, source) = set_and_source(arguments)?;
     let answer = match arguments.report.as_deref() {
         None => answer_of(&bytes),
         given => stored_answer(given, &bytes, arguments.as_given)?,
@@ -362,7 +385,78 @@ fn run_explain(arguments: &Arguments) -> Result<u8, Failure> {
     })
 }
 
-/// The bytes of the set to explain, and what its text says besides.
+fn run_sizes(arguments: &Arguments) -> Result<u8, Failure> {
+    let (bytes, source) = set_and_source(arguments)?;
+    let failure = |message: String| (message, FAILED);
+    if let Err(refusal) = layout::accept(&bytes) {
+        let report = Report::Refused(refusal.number());
+        for part in explain(&bytes, &report, &source).map_err(failure)? {
+            output(None, part.as_bytes())?;
+        }
+        return Ok(REFUSED);
+    }
+    let bundle = accepted(&bytes).map_err(failure)?;
+    let mut sizes = Sizes::new(&bundle, &bytes, &source);
+    match &arguments.name {
+        Some(name) => {
+            let place = sizes.find(name);
+            let place = place.ok_or_else(|| undefined(arguments, name, &source))?;
+            run_one_size(arguments, &mut sizes, place)
+        }
+        None => {
+            for part in sizes.all() {
+                output(None, part.map_err(failure)?.as_bytes())?;
+            }
+            Ok(0)
+        }
+    }
+}
+
+/// The tree of a bundle that the library accepts, if this program finds no fault in it either.
+fn accepted(bytes: &[u8]) -> Result<Bundle, String> {
+    let bundle = read(bytes)
+        .map_err(|fault| format!("the library accepts the bundle, but the fault is at {fault}"))?;
+    match circle(&bundle) {
+        Some(_) => Err("the library accepts the bundle, but it circles".to_string()),
+        None => Ok(bundle),
+    }
+}
+
+fn undefined(arguments: &Arguments, name: &str, source: &Source) -> Failure {
+    let hint = match source.names.is_empty() && !name.starts_with('#') {
+        true => "; no words are known for its names: write #17 for name 17, or give --names",
+        false => "",
+    };
+    let (place, name) = (label(arguments.file.as_deref()), cut(name));
+    (format!("{place}: `{name}` has no definition{hint}"), FAILED)
+}
+
+/// What is said about one definition, or its picture.
+fn run_one_size(arguments: &Arguments, sizes: &mut Sizes, place: usize) -> Result<u8, Failure> {
+    let failure = |message: String| (message, FAILED);
+    if !arguments.svg {
+        let answer = sizes.answer(place).map_err(failure)?;
+        output(None, answer.text.as_bytes())?;
+        return Ok(if answer.fixed { 0 } else { REFUSED });
+    }
+    match sizes.picture(place).map_err(failure)? {
+        Ok(drawn) => output(arguments.out.as_deref(), drawn.as_bytes()).map(|()| 0),
+        // Words are no picture, so they go to standard error.
+        Err(answer) => Err((answer.text, REFUSED)),
+    }
+}
+
+/// The set that is asked about, with the names that are given for it.
+fn set_and_source(arguments: &Arguments) -> Result<(Vec<u8>, Source), Failure> {
+    let (bytes, own) = set_from(arguments)?;
+    let source = match arguments.names.as_deref() {
+        None => own,
+        given => source_from(given, &bytes)?,
+    };
+    Ok((bytes, source))
+}
+
+/// The bytes of the set that is asked about, and what its text says besides.
 fn set_from(arguments: &Arguments) -> Result<(Vec<u8>, Source), Failure> {
     let path = arguments.file.as_deref();
     let mut given = Vec::new();

@@ -58,6 +58,24 @@ impl Names {
         }
     }
 
+    /// The number that a word has, or that `#17` says.
+    pub fn find(&self, word: &str) -> Option<Name> {
+        match word.strip_prefix('#') {
+            Some(digits) => digits.parse().ok(),
+            None => self.numbers.get(word).copied(),
+        }
+    }
+
+    /// The word of a number for a message or a table: of a long one the start.
+    pub fn short(&self, number: Name) -> String {
+        cut(&self.word(number)).into_owned()
+    }
+
+    /// Whether no number has a word.
+    pub fn is_empty(&self) -> bool {
+        self.words.is_empty()
+    }
+
     pub fn has(&self, number: Name) -> bool {
         self.words.contains_key(&number)
     }

@@ -30,6 +30,16 @@ pub fn show(bundle: &Bundle, names: &Names) -> String {
     table + "\n" + &body
 }
 
+/// An expression as text.
+pub fn expression(node: &Expr, names: &Names) -> String {
+    let mut writer = Writer {
+        names,
+        used: BTreeSet::new(),
+        out: String::new(),
+    };
+    writer.expr(node)
+}
+
 fn push_line(out: &mut String, line: String) {
     out.push_str(&line);
     out.push('\n');
@@ -165,10 +175,6 @@ impl Writer<'_> {
 
 fn literal(kind: u8, bits: u64) -> String {
     let ending = words::word_of(&words::LITERALS, words::FIRST_LITERAL, kind);
-    if kind < words::FIRST_SIGNED_LITERAL {
-        return format!("{bits}{ending}");
-    }
-    let unused = 64 - 8 * literal_width(kind) as u32;
-    let value = ((bits << unused) as i64) >> unused;
+    let value = words::literal_value(kind, bits);
     format!("{value}{ending}")
 }

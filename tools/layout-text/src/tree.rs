@@ -10,7 +10,7 @@ pub const EDGE_LIMIT: usize = 1_024;
 pub const PATH_LIMIT: usize = 4;
 
 /// The one to four names of a FieldRef, in place: a text of the greatest length has millions of them.
-#[derive(Clone, Copy, Debug, PartialEq, Eq)]
+#[derive(Clone, Copy, Debug, PartialEq, Eq, Hash)]
 pub struct Path {
     places: [Name; PATH_LIMIT],
     count: u8,
@@ -39,7 +39,7 @@ impl Path {
     }
 }
 
-#[derive(Clone, Debug, PartialEq, Eq)]
+#[derive(Clone, Debug, PartialEq, Eq, Hash)]
 pub enum Expr {
     /// Kind byte 01 to 08 and the bits, without sign.
     Literal(u8, u64),
@@ -52,13 +52,13 @@ pub enum Expr {
     Unary(u8, Box<Expr>),
 }
 
-#[derive(Clone, Copy, Debug, Default, PartialEq, Eq)]
+#[derive(Clone, Copy, Debug, Default, PartialEq, Eq, Hash)]
 pub struct Attributes {
     pub packed: bool,
     pub aligned: u64,
 }
 
-#[derive(Clone, Copy, Debug, PartialEq, Eq)]
+#[derive(Clone, Copy, Debug, PartialEq, Eq, Hash)]
 pub enum GroupKind {
     Struct,
     Union,
@@ -66,7 +66,7 @@ pub enum GroupKind {
     SizeUnion,
 }
 
-#[derive(Clone, Debug, PartialEq, Eq)]
+#[derive(Clone, Debug, PartialEq, Eq, Hash)]
 pub struct Group {
     pub kind: GroupKind,
     pub attributes: Attributes,
@@ -75,7 +75,7 @@ pub struct Group {
     pub members: Vec<Member>,
 }
 
-#[derive(Clone, Debug, PartialEq, Eq)]
+#[derive(Clone, Debug, PartialEq, Eq, Hash)]
 pub struct Array {
     pub attributes: Attributes,
     pub jagged: bool,
@@ -83,7 +83,7 @@ pub struct Array {
     pub element: Type,
 }
 
-#[derive(Clone, Debug, PartialEq, Eq)]
+#[derive(Clone, Debug, PartialEq, Eq, Hash)]
 pub enum Type {
     /// Kind byte 30 to 3B.
     Primitive(u8),
@@ -92,7 +92,7 @@ pub enum Type {
     Array(Box<Array>),
 }
 
-#[derive(Clone, Debug, PartialEq, Eq)]
+#[derive(Clone, Debug, PartialEq, Eq, Hash)]
 pub struct Member {
     pub name: Name,
     /// Tag value or expected size; 0 in fields and union variants.

@@ -1,7 +1,8 @@
 //! The words and signs of the notation, in the order of their kind bytes.
 
-use crate::tree::{GroupKind, Type};
+use crate::tree::{literal_width, GroupKind, Type};
 use std::borrow::Cow;
+use std::fmt;
 
 /// From kind byte 30 on.
 pub const PRIMITIVES: [&str; 12] = [
@@ -49,6 +50,13 @@ pub fn cut(word: &str) -> Cow<'_, str> {
     }
 }
 
+/// A number of things: `1 edge`, `2 edges`.
+pub fn counted(count: impl fmt::Display, what: &str) -> String {
+    let number = count.to_string();
+    let ending = if number == "1" { "" } else { "s" };
+    format!("{number} {what}{ending}")
+}
+
 /// The kind byte that a word or sign of a list stands for.
 pub fn kind_of(list: &[&str], first: u8, word: &str) -> Option<u8> {
     let place = list.iter().position(|other| *other == word)?;
@@ -67,6 +75,15 @@ pub fn group_word(kind: GroupKind) -> &'static str {
         GroupKind::Enum => "enum",
         GroupKind::SizeUnion => "size-union",
     }
+}
+
+/// The number that a literal of this kind and these bits stands for.
+pub fn literal_value(kind: u8, bits: u64) -> i128 {
+    if kind < FIRST_SIGNED_LITERAL {
+        return i128::from(bits);
+    }
+    let unused = 64 - 8 * literal_width(kind) as u32;
+    i128::from(((bits << unused) as i64) >> unused)
 }
 
 /// What a type is, in one or two words.

@@ -191,8 +191,83 @@ wrong '7777…` is no number of 64 bits' explain "$work/digits"
 "$tool" assemble "$work/input" > "$work/bundle"
 wrong '7777…` is not made of pairs' explain "$work/bundle" --report "$work/report"
 
+# Sizes: all definitions, one by word or number, twice defined, not fixed, not defined.
+cat > "$work/sizes.layout" <<'SIZES'
+define cell struct { serial: u8  gain: f32 }
+define frame struct { cell: ref cell  tail: ref samples }
+define samples array [frame.count] u8
+define cell u16
+SIZES
+"$tool" assemble "$work/sizes.layout" > "$work/sizes.bundle"
+cell='Definition 0 (line 1), struct `cell`: 8 bytes, alignment 4'
+expect 0 '2 of 4 definitions have a fixed size.' sizes "$work/sizes.layout"
+expect 0 "$cell" sizes "$work/sizes.layout"
+expect 0 'Definition 3 (line 4), u16 `cell`: 2 bytes, alignment 2' sizes "$work/sizes.layout"
+expect 0 "$cell" sizes "$work/sizes.layout" cell
+expect 0 '       1     3             (gap)' sizes "$work/sizes.layout" cell
+expect 0 'Definition 0, struct `#1`: 8 bytes' sizes "$work/sizes.bundle" '#1'
+expect 0 "$cell" sizes --names "$work/sizes.layout" "$work/sizes.bundle" cell
+tail='`frame.tail` is of type `samples` (definition 2, line 3), an array whose size reads the field `frame.count`.'
+expect 2 "$tail" sizes "$work/sizes.layout" frame
+expect 2 'struct `frame`: no fixed size, varying (11)' sizes "$work/sizes.layout" frame
+cp "$work/sizes.layout" "$work/input"
+expect 0 '2 of 4 definitions' sizes
+expect 0 "$cell" sizes - cell
+expect 0 "$cell" sizes - cell --text
+wrong '`gain` has no definition' sizes "$work/sizes.layout" gain
+wrong '`nowhere` has no definition' sizes "$work/sizes.layout" nowhere
+wrong '`#77` has no definition' sizes "$work/sizes.layout" '#77'
+wrong '`#99999` has no definition' sizes "$work/sizes.layout" '#99999'
+wrong 'no words are known for its names: write #17 for name 17, or give --names' sizes "$work/sizes.bundle" cell
+wrong '7777…` has no definition' sizes "$work/sizes.layout" "$(printf '%0999d' 0 | tr 0 7)"
+wrong '`` has no definition' sizes "$work/sizes.layout" ''
+wrong '`more` is one argument too many' sizes "$work/sizes.layout" cell more
+wrong '`--svg` is given without `NAME`' sizes "$work/sizes.layout" --svg
+wrong '`-o` is given without `--svg`' sizes "$work/sizes.layout" cell -o "$work/picture"
+wrong '`--svg` is given twice' sizes "$work/sizes.layout" cell --svg --svg
+wrong 'wrong argument `--hex`' sizes "$work/sizes.layout" --hex
+wrong 'wrong argument `--svg`' explain "$work/sizes.layout" --svg
+wrong '`--text` and `--bytes` are both given' sizes "$work/sizes.layout" --text --bytes
+wrong 'standard input is asked for twice' sizes - --names -
+expect 0 'layout-text sizes' sizes --help
+expect 2 'Refused: circle (8)' sizes samples/refused-circle.layout
+expect 2 'The circle: winch_frame -> tension_record -> winch_frame' sizes samples/refused-circle.layout winch_frame
+expect 2 'Reading stopped at byte' sizes samples/refused-buried.layout
+head -c 40 "$work/sizes.bundle" > "$work/cut"
+expect 2 'Refused: short (2)' sizes "$work/cut"
+printf 'define frame cell' > "$work/wrong.layout"
+wrong '`cell` is no type' sizes "$work/wrong.layout"
+: > "$work/plain.layout"
+expect 0 '0 of 0 definitions have a fixed size.' sizes "$work/plain.layout"
+
+# The examples of sizes in README.md.
+rm -f "$work"/example-*
+awk -v work="$work" '
+  sub(/^    \$ layout-text sizes /, "") { file = work "/example-" ++n; print > (file ".words"); next }
+  /^$/ { file = "" }
+  file { print substr($0, 5) > file }' tools/layout-text/README.md
+examples=0
+for example in "$work"/example-*.words; do
+  examples=$((examples + 1))
+  "$tool" sizes $(cat "$example") 2>&1 | cmp -s - "${example%.words}" || fail "the example $(cat "$example") of README.md"
+done
+[ "$examples" -eq 2 ] || fail "$examples examples of sizes in README.md"
+
+# Pictures: to a file or to standard output; words where there is none to draw.
+expect 0 - sizes "$work/sizes.layout" cell --svg -o "$work/picture.svg"
+expect 0 '<title>gain: f32, at 4, 4 bytes, alignment 4</title>' sizes "$work/sizes.layout" cell --svg
+cmp -s "$work/printed" "$work/picture.svg" || fail 'the picture is not the same in a file'
+rm -f "$work/none.svg"
+expect 2 "$tail" sizes "$work/sizes.layout" frame --svg -o "$work/none.svg"
+[ ! -e "$work/none.svg" ] || fail 'a picture of a definition without a fixed size'
+expect 3 '`gain` has no definition' sizes "$work/sizes.layout" gain --svg
+expect 3 '/dev/full: cannot be written: No space left on device' sizes "$work/sizes.layout" cell --svg -o /dev/full
+if command -v python3 > /dev/null; then
+  python3 -c 'import sys, xml.dom.minidom as x; x.parse(sys.argv[1])' "$work/picture.svg" || fail 'the picture is no XML'
+fi
+
 # What cannot be read.
-for verb in assemble show explain; do
+for verb in assemble show explain sizes; do
   expect 3 'program/missing: cannot be read: No such file' $verb "$work/missing"
   expect 3 'program: cannot be read: Is a directory' $verb "$work"
   expect 3 'cannot be read: Input/output error' $verb /proc/self/mem
@@ -214,6 +289,8 @@ endless 3 '/dev/zero: more than 4194304 bytes' show "$work/bundle" --names /dev/
 endless 3 '/dev/zero: more than 67108864 bytes, too many for a report' explain "$work/bundle" --report /dev/zero
 endless 2 'byte 32768: overlong (1)' show /dev/zero
 endless 2 'Refused: overlong (1)' explain /dev/zero
+endless 2 'Refused: overlong (1)' sizes /dev/zero
+endless 3 '/dev/zero: more than 4194304 bytes' sizes /dev/zero --text
 head -c 4194304 /dev/zero | tr '\000' '\n' > "$work/blank"
 expect 0 '0 definitions' explain "$work/blank"
 echo >> "$work/blank"
@@ -258,6 +335,16 @@ for option in --text --hex; do
   [ $? -eq 1 ] && [ ! -s "$work/printed" ] || fail "a long answer, $option"
 done
 
+# And sizes of many fields, once more for each name that leads to them.
+awk 'BEGIN {
+  print "define a0 struct {"
+  for (n = 0; n < 8000; n++) print "f: u8"
+  print "}"
+  for (n = 1; n < 40; n++) print "define a" n " ref a" n - 1
+}' > "$work/wide"
+bounded 0 '40 of 40 definitions have a fixed size.' sizes "$work/wide"
+bounded 0 '<title>f: u8, at 7999, 1 byte, alignment 1</title>' sizes "$work/wide" a39 --svg
+
 # What cannot be written.
 { echo 'define #1 struct {'; awk 'BEGIN { for (n = 0; n < 8000; n++) print "#65535: u8" }'; echo '}'; } > "$work/input"
 "$tool" assemble "$work/input" > "$work/long"
@@ -270,11 +357,15 @@ for place in /dev/full closed; do
   lost $place "$full" show "$work/bundle"
   lost $place "$full" explain "$work/bundle"
   lost $place "$full" explain "$work/bundle" --hex
+  lost $place "$full" sizes "$work/bundle"
+  lost $place "$full" sizes "$work/sizes.layout" cell
+  lost $place "$full" sizes "$work/sizes.layout" cell --svg
 done
 expect 3 '/dev/full: cannot be written: No space left on device' assemble -o /dev/full
 expect 3 '/dev/full: cannot be written: No space left on device' show "$work/bundle" -o /dev/full
 expect 3 'none/x: cannot be written: No such file' assemble -o "$work/none/x"
 lost pipe - show "$work/long"
+lost pipe - sizes "$work/long"
 # A message that cannot be written leaves the exit code.
 "$tool" frob 2> /dev/full
 [ $? -eq 3 ] || fail 'a message onto a full device'
@@ -294,6 +385,10 @@ pub unsafe extern "C" fn layout_accept() -> u8 {
 pub unsafe extern "C" fn layout_report() -> u8 {
     abort()
 }
+#[no_mangle]
+pub unsafe extern "C" fn layout_fixed_size() -> u8 {
+    abort()
+}
 MUTE
 target=tools/layout-text/target
 rustc --edition 2021 -C panic=abort --crate-type lib --emit obj -o "$work/mute.o" "$work/mute.rs" &&
@@ -309,6 +404,19 @@ for sample in winch type-1-enum-forward refused-circle; do
 done
 (ulimit -c 0; "$work/mute" explain samples/winch.layout; echo $? > "$work/code") > "$work/words" 2>&1
 [ "$(cat "$work/code")" -ge 128 ] || fail 'the library without answers was not linked'
+# A library that answers otherwise than the walk over the set: no number of it is told.
+sed 's/layout_accept() -> u8 {/layout_accept() -> u8 { return 0;/
+  s/layout_fixed_size() -> u8 {/layout_fixed_size() -> u8 { return 12;/' "$work/mute.rs" > "$work/other.rs"
+rustc --edition 2021 -A unreachable_code -C panic=abort --crate-type lib --emit obj -o "$work/other.o" "$work/other.rs" &&
+  rustc --edition 2021 -L "$target" --extern layout --extern layout_text -C "link-arg=$work/other.o" -o "$work/other" \
+    tools/layout-text/src/main.rs || fail 'the program over a library with other answers was not built'
+for name in cell frame; do
+  "$work/other" sizes "$work/sizes.layout" $name > "$work/words" 2> "$work/printed"
+  [ $? -eq 3 ] && [ ! -s "$work/words" ] && grep -q 'the library answers oversized (12)' "$work/printed" ||
+    fail "an answer about $name that is not the walk's is told"
+done
+"$work/other" sizes samples/refused-circle.layout > "$work/words" 2> "$work/printed"
+[ $? -eq 3 ] && grep -q 'the library accepts the bundle, but it circles' "$work/printed" || fail 'a circle is accepted'
 # Type 1 has a path of two names, and the places that a path does not use are 0.
 tr ' ' '\n' < samples/type-1-enum-forward.report > "$work/pairs"
 sed '9s/02/03/; 14s/00/01/' "$work/pairs" > "$work/report"
@@ -348,7 +456,7 @@ script() {
   done
 }
 script tools/layout-text/build.sh 1
-script tools/layout-text/test.sh 2
+script tools/layout-text/test.sh 3
 script samples/check.sh 1
 script bindings/rust/test.sh 1
 for due in "$copy/my library.a" -no-pie -lm; do

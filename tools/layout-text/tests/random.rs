@@ -1,7 +1,7 @@
 //! Random bundles of the oracle's generator, sound and damaged, and damaged texts.
 
 use layout_oracle::random::Random;
-use layout_oracle::{bundle, damage, generate, reader};
+use layout_oracle::{bundle, damage, fixed_generate, generate, reader};
 use layout_text::encode::encode;
 use layout_text::explain::{explain, Source};
 use layout_text::names::Names;
@@ -9,6 +9,7 @@ use layout_text::parse::parse;
 use layout_text::read::read;
 use layout_text::report::{self, Report};
 use layout_text::show::show;
+use layout_text::sizes::Sizes;
 
 const ROUNDS: usize = 4_000;
 
@@ -99,6 +100,43 @@ fn every_answer_of_the_library_can_be_explained() {
         };
         assert_eq!(words.count(), due);
     }
+}
+
+/// The walk agrees with the library on every definition, and what is fixed can be drawn.
+#[test]
+fn every_fixed_size_can_be_told() {
+    let mut random = Random::new(5);
+    let (mut fixed, mut refused) = (0, [0; 3]);
+    for round in 0..ROUNDS {
+        let tree = match round % 4 {
+            0 => generate::small(&mut random),
+            1 => fixed_generate::fixed(&mut random),
+            _ => fixed_generate::small_fixed(&mut random),
+        };
+        let bytes = bundle::encode(&tree);
+        if layout::accept(&bytes).is_err() {
+            continue;
+        }
+        let tree = read(&bytes).expect("accepted");
+        let source = Source {
+            names: some_names(&mut random),
+            lines: Vec::new(),
+        };
+        let mut sizes = Sizes::new(&tree, &bytes, &source);
+        for place in 0..tree.definitions.len() {
+            let answer = sizes.answer(place);
+            let answer = answer.unwrap_or_else(|error| panic!("{error}\n{bytes:02X?}"));
+            for (count, word) in refused.iter_mut().zip(["(10)", "(11)", "(12)"]) {
+                *count += usize::from(answer.text.contains(word));
+            }
+            fixed += usize::from(answer.fixed);
+            assert_eq!(sizes.picture(place).unwrap().is_ok(), answer.fixed);
+        }
+    }
+    assert!(
+        fixed > 1_000 && refused.iter().all(|count| *count > 300),
+        "{fixed}, {refused:?}"
+    );
 }
 
 #[test]

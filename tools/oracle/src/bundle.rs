@@ -17,9 +17,12 @@ pub const TOO_DEEP: Refusal = 6;
 pub const BYTES_LEFT: Refusal = 7;
 pub const REFERENCE_CYCLE: Refusal = 8;
 pub const OUTPUT_TOO_SMALL: Refusal = 9;
+pub const MISALIGNED: Refusal = 10;
+pub const VARYING: Refusal = 11;
+pub const OVERSIZED: Refusal = 12;
 
 /// Words of the refusals, by number.
-pub const WORDS: [&str; 10] = [
+pub const WORDS: [&str; 13] = [
     "",
     "overlong",
     "short",
@@ -30,6 +33,9 @@ pub const WORDS: [&str; 10] = [
     "trailing",
     "circle",
     "narrow",
+    "misaligned",
+    "varying",
+    "oversized",
 ];
 
 #[derive(Clone, Debug, PartialEq, Eq)]

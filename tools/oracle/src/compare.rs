@@ -151,8 +151,8 @@ impl fmt::Display for Tally {
                 "violation type {kind}         {all} in {bundles} bundles"
             )?;
         }
-        for (number, word) in WORDS.iter().enumerate().skip(1) {
-            writeln!(out, "refusal {number} {word:<14} {}", self.refusals[number])?;
+        for (number, count) in self.refusals.iter().enumerate().skip(1) {
+            writeln!(out, "refusal {number} {:<14} {count}", WORDS[number])?;
         }
         write!(out, "chain lengths           ")?;
         for (low, high) in LENGTHS {

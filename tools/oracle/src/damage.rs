@@ -16,10 +16,15 @@ pub fn damaged(random: &mut Random) -> Vec<u8> {
     } else {
         generate::any(random)
     };
+    damaged_from(random, &bundle)
+}
+
+/// The same from a given bundle.
+pub fn damaged_from(random: &mut Random, bundle: &Bundle) -> Vec<u8> {
     let mut bytes = match random.below(12) {
-        0 => encode(&with_cycle(random, &bundle)),
-        1 => encode(&too_deep(random, &bundle)),
-        _ => with_faults(random, &bundle),
+        0 => encode(&with_cycle(random, bundle)),
+        1 => encode(&too_deep(random, bundle)),
+        _ => with_faults(random, bundle),
     };
     match random.below(30) {
         0..=3 => bytes.truncate(random.below(bytes.len() + 1)),

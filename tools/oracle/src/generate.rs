@@ -92,7 +92,7 @@ pub fn small(random: &mut Random) -> Bundle {
 }
 
 /// Puts other names for those of the pool; 0 may be among either.
-fn permute_names(random: &mut Random, pool: Name, bundle: &Bundle) -> Bundle {
+pub(crate) fn permute_names(random: &mut Random, pool: Name, bundle: &Bundle) -> Bundle {
     let mut names: Vec<Name> = if random.chance(80) {
         (0..pool + 4).collect()
     } else {

@@ -2,10 +2,12 @@
 
 use layout_oracle::cases::{cases, Case};
 use layout_oracle::compare::{compare_answers, compare_readings, hex, Difference, Tally};
+use layout_oracle::fixed::fixed_answer;
+use layout_oracle::fixed_cases::{fixed_cases, FixedCase};
 use layout_oracle::limits::edge_cases;
 use layout_oracle::reader;
 use layout_oracle::report::{program_bytes, report_bytes};
-use layout_oracle::{bundle, original, reference, work};
+use layout_oracle::{bundle, fixed_examples, original, reference, repr_c, work};
 use std::io::{self, Read, Write};
 use std::process::{Command, ExitCode, Stdio};
 use std::time::Instant;
@@ -14,10 +16,14 @@ const USAGE: &str = "usage:
   oracle report < bundle > report
   oracle renumber < bundle > bundle
   oracle chain FROM TO < bundle
+  oracle fixed DEFINITION < bundle
   oracle self SEED COUNT
   oracle program PATH SEED COUNT
   oracle cases SEED COUNT
-  oracle edgecases";
+  oracle edgecases
+  oracle fixedcases SEED COUNT
+  oracle reprc-source SEED COUNT > program.rs
+  oracle reprc SEED COUNT < output of the program";
 
 fn main() -> ExitCode {
     let arguments: Vec<String> = std::env::args().skip(1).collect();
@@ -26,15 +32,25 @@ fn main() -> ExitCode {
         ["report"] => report(),
         ["renumber"] => renumber(),
         ["chain", from, to] => number(from).zip(number(to)).map(|(f, t)| chain(f, t)),
+        ["fixed", definition] => number(definition).map(fixed),
         ["self", seed, count] => number(seed)
             .zip(number(count))
-            .map(|(seed, count)| finish(|| compare_readings(seed, count as usize))),
+            .map(|(seed, count)| finish(|| compare_self(seed, count as usize))),
         ["program", path, seed, count] => number(seed)
             .zip(number(count))
             .map(|(seed, count)| finish(|| program(path, seed, count as usize))),
         ["cases", seed, count] => number(seed)
             .zip(number(count))
             .map(|(seed, count)| print_cases(&cases(seed, count as usize))),
+        ["fixedcases", seed, count] => number(seed)
+            .zip(number(count))
+            .map(|(seed, count)| print_fixed_cases(&fixed_cases(seed, count as usize))),
+        ["reprc-source", seed, count] => number(seed)
+            .zip(number(count))
+            .and_then(|(seed, count)| output(repr_c::source(seed, count as usize).as_bytes())),
+        ["reprc", seed, count] => number(seed)
+            .zip(number(count))
+            .map(|(seed, count)| compare_repr_c(seed, count as usize)),
         ["edgecases"] => Some(print_cases(&edge_cases())),
         _ => None,
     };
@@ -86,6 +102,33 @@ fn chain(from: u64, to: u64) -> ExitCode {
     ExitCode::SUCCESS
 }
 
+fn fixed(definition: u64) -> ExitCode {
+    let definition = usize::try_from(definition).unwrap_or(usize::MAX);
+    match fixed_answer(&input(), definition, usize::MAX) {
+        Err(refusal) => println!("refused {refusal}"),
+        Ok(found) => {
+            println!("size {}, alignment {}", found.size, found.alignment);
+            println!("offsets {:?}", found.offsets);
+        }
+    }
+    ExitCode::SUCCESS
+}
+
+fn compare_repr_c(seed: u64, count: usize) -> ExitCode {
+    let lines = String::from_utf8(input()).expect("text");
+    let answer = |bytes: &[u8], definition| fixed_answer(bytes, definition, usize::MAX);
+    match repr_c::compare(seed, count, &lines, &answer) {
+        Ok(tally) => {
+            println!("as in rustc, by the second reading: {tally}");
+            ExitCode::SUCCESS
+        }
+        Err(text) => {
+            println!("unlike rustc, by the second reading: {text}");
+            ExitCode::FAILURE
+        }
+    }
+}
+
 fn finish(run: impl FnOnce() -> Result<Tally, Difference>) -> ExitCode {
     let start = Instant::now();
     match run() {
@@ -99,6 +142,12 @@ fn finish(run: impl FnOnce() -> Result<Tally, Difference>) -> ExitCode {
             ExitCode::FAILURE
         }
     }
+}
+
+fn compare_self(seed: u64, count: usize) -> Result<Tally, Difference> {
+    let checked = fixed_examples::check().unwrap_or_else(|text| panic!("{text}"));
+    println!("examples of fixed sizes  {checked}");
+    compare_readings(seed, count)
 }
 
 fn program(path: &str, seed: u64, count: usize) -> Result<Tally, Difference> {
@@ -134,16 +183,31 @@ fn run_program(path: &str, bytes: &[u8]) -> Vec<u8> {
     result.stdout
 }
 
-/// One case a line; an empty bundle is written as `-`.
+/// An empty bundle is written as `-`.
+fn bundle_text(bytes: &[u8]) -> String {
+    match bytes.is_empty() {
+        true => "-".to_string(),
+        false => hex(bytes),
+    }
+}
+
+/// One case a line.
 fn print_cases(list: &[Case]) -> ExitCode {
     let mut out = io::BufWriter::new(io::stdout().lock());
     for case in list {
-        let bundle = match case.bundle.is_empty() {
-            true => "-".to_string(),
-            false => hex(&case.bundle),
-        };
+        let bundle = bundle_text(&case.bundle);
         let answer = hex(&case.answer);
         writeln!(out, "{bundle} {answer}").expect("standard output");
+    }
+    ExitCode::SUCCESS
+}
+
+fn print_fixed_cases(list: &[FixedCase]) -> ExitCode {
+    let mut out = io::BufWriter::new(io::stdout().lock());
+    for case in list {
+        let bundle = bundle_text(&case.bundle);
+        let answer = hex(&case.answer);
+        writeln!(out, "{} {bundle} {answer}", case.definition).expect("standard output");
     }
     ExitCode::SUCCESS
 }

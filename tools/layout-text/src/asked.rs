@@ -1,0 +1,58 @@
+//! What the library answers about definitions, and about the types inside them.
+
+use crate::encode::encode;
+use crate::tree::*;
+use layout::{FixedLayout, Refusal};
+use std::collections::HashMap;
+
+/// The library's answers about one bundle, which is accepted.
+pub struct Asked<'a> {
+    bundle: &'a Bundle,
+    bytes: &'a [u8],
+    types: HashMap<&'a Type, FixedLayout>,
+}
+
+impl<'a> Asked<'a> {
+    pub fn new(bundle: &'a Bundle, bytes: &'a [u8]) -> Asked<'a> {
+        Asked {
+            bundle,
+            bytes,
+            types: HashMap::new(),
+        }
+    }
+
+    pub fn definition(&self, place: usize) -> Result<FixedLayout, Refusal> {
+        layout::fixed_size_vec(self.bytes, place)
+    }
+
+    /// The answer about a type that stands inside a definition. It has no number, so the library is asked about the
+    /// bundle with the type in the definition's place. That bundle has no more of anything, and what the type leads to
+    /// is the same in it: nothing inside a definition leads back to it, since the bundle does not circle.
+    pub fn inside(&mut self, place: usize, node: &'a Type) -> Result<FixedLayout, String> {
+        if let Some(found) = self.types.get(node) {
+            return Ok(found.clone());
+        }
+        let bytes = encode(&self.with(place, node))?;
+        let found = layout::fixed_size_vec(&bytes, place).map_err(|refusal| {
+            format!(
+                "the library gives definition {place} a fixed size, and a part of it none: {refusal}"
+            )
+        })?;
+        self.types.insert(node, found.clone());
+        Ok(found)
+    }
+
+    /// The bundle with another type for one definition.
+    fn with(&self, place: usize, body: &Type) -> Bundle {
+        let definitions = self.bundle.definitions.iter().enumerate();
+        let definitions = definitions.map(|(at, definition)| Definition {
+            name: definition.name,
+            body: if at == place { body } else { &definition.body }.clone(),
+        });
+        Bundle {
+            current: self.bundle.current,
+            definitions: definitions.collect(),
+            edges: self.bundle.edges.clone(),
+        }
+    }
+}

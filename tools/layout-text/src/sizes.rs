@@ -1,0 +1,324 @@
+//! The fixed sizes of a set's definitions in words and tables. Every number comes from the library; the walk in
+//! fixed.rs must agree with it.
+
+use crate::asked::Asked;
+use crate::explain::Source;
+use crate::fixed::{count, Walk};
+use crate::names::Names;
+use crate::obstacle::sentence;
+use crate::picture::picture;
+use crate::show::expression;
+use crate::table::{table, Content, Row};
+use crate::tree::*;
+use crate::words::{self, counted};
+use layout::FixedLayout;
+
+/// What is said about one definition.
+pub struct Answer {
+    pub text: String,
+    pub fixed: bool,
+}
+
+/// Size and alignment of a definition, and what it is made of.
+pub struct Plan<'a> {
+    pub layout: FixedLayout,
+    /// The type of the definition, or the one that its TypeRefs lead to.
+    pub body: &'a Type,
+    pub rows: Vec<Row>,
+}
+
+/// The definitions of an accepted bundle.
+pub struct Sizes<'a> {
+    bundle: &'a Bundle,
+    source: &'a Source,
+    walk: Walk<'a>,
+    asked: Asked<'a>,
+}
+
+impl<'a> Sizes<'a> {
+    pub fn new(bundle: &'a Bundle, bytes: &'a [u8], source: &'a Source) -> Sizes<'a> {
+        Sizes {
+            bundle,
+            source,
+            walk: Walk::new(bundle),
+            asked: Asked::new(bundle, bytes),
+        }
+    }
+
+    /// The number of the first definition of a name, given as a word or as `#17`.
+    pub fn find(&self, word: &str) -> Option<usize> {
+        self.walk.first(self.source.names.find(word)?)
+    }
+
+    /// The plan of a definition, or the sentence that says why it has no fixed size.
+    fn plan(&mut self, place: usize) -> Result<Result<Plan<'a>, Answer>, String> {
+        let answered = self.asked.definition(place);
+        let found = self.walk.layout(place);
+        match (answered, found) {
+            (Ok(layout), Ok(own)) if layout == own => self.fixed_plan(place, layout).map(Ok),
+            (Err(refusal), Err(obstacle)) if obstacle.fault.refusal() == refusal => {
+                let name = self.bundle.definitions[place].name;
+                let first = |name| self.walk.first(name);
+                let why = sentence(name, &obstacle, self.source, first);
+                let (head, word, number) = (self.head(place), refusal.word(), refusal.number());
+                Ok(Err(Answer {
+                    text: format!("{head}: no fixed size, {word} ({number})\n  {why}\n"),
+                    fixed: false,
+                }))
+            }
+            (answered, found) => {
+                let found = found.map_err(|obstacle| obstacle.fault.refusal());
+                Err(format!(
+                    "definition {place}: the library answers {}, and the walk over the set finds {}",
+                    answer_text(&answered),
+                    answer_text(&found)
+                ))
+            }
+        }
+    }
+
+    fn fixed_plan(&mut self, place: usize, layout: FixedLayout) -> Result<Plan<'a>, String> {
+        let shown = self.walk.shown(place);
+        let body = &self.bundle.definitions[shown].body;
+        let mut rows = Rows {
+            asked: &mut self.asked,
+            names: &self.source.names,
+            place: shown,
+            rows: Vec::new(),
+        };
+        rows.inside(body, 0, 0, "")?;
+        let rows = rows.rows;
+        Ok(Plan { layout, body, rows })
+    }
+
+    /// What is said about a definition.
+    pub fn answer(&mut self, place: usize) -> Result<Answer, String> {
+        let plan = match self.plan(place)? {
+            Ok(plan) => plan,
+            Err(answer) => return Ok(answer),
+        };
+        let title = self.title(place, &plan)?;
+        Ok(Answer {
+            text: format!("{title}\n{}", table(&plan.rows)),
+            fixed: true,
+        })
+    }
+
+    /// What is said about all definitions, part by part.
+    pub fn all(&mut self) -> impl Iterator<Item = Result<String, String>> + use<'_, 'a> {
+        let places = 0..self.bundle.definitions.len();
+        let fixed = places
+            .clone()
+            .filter(|place| self.asked.definition(*place).is_ok());
+        let (fixed, all) = (fixed.count(), counted(places.len(), "definition"));
+        let have = if fixed == 1 { "has" } else { "have" };
+        let head = format!("{fixed} of {all} {have} a fixed size.\n");
+        let each = places.map(|place| {
+            let answer = self.answer(place)?;
+            Ok(format!("\n{}", answer.text))
+        });
+        std::iter::once(Ok(head)).chain(each)
+    }
+
+    /// The drawing of a definition, or what is said where it has no fixed size.
+    pub fn picture(&mut self, place: usize) -> Result<Result<String, Answer>, String> {
+        let plan = match self.plan(place)? {
+            Ok(plan) => plan,
+            Err(answer) => return Ok(Err(answer)),
+        };
+        let title = self.title(place, &plan)?;
+        Ok(Ok(picture(&title, &plan)))
+    }
+
+    /// A definition's place, kind and name.
+    fn head(&self, place: usize) -> String {
+        let definition = &self.bundle.definitions[place];
+        let name = self.source.names.short(definition.name);
+        let word = words::type_word(&definition.body);
+        let number = self.source.definition(place).replacen('d', "D", 1);
+        format!("{number}, {word} `{name}`")
+    }
+
+    /// The head with size and alignment, and what a table does not show.
+    fn title(&mut self, place: usize, plan: &Plan<'a>) -> Result<String, String> {
+        let (head, size) = (self.head(place), counted(plan.layout.size, "byte"));
+        let alignment = plan.layout.alignment;
+        let shown = self.walk.shown(place);
+        let leads = match shown == place {
+            true => String::new(),
+            false => {
+                let name = self.bundle.definitions[shown].name;
+                let word = words::type_word(plan.body);
+                format!("; it is {word} `{}`", self.source.names.short(name))
+            }
+        };
+        let more = match plan.body {
+            Type::Group(group) => group_text(group),
+            Type::Array(array) => {
+                let count = count(&array.size).unwrap_or(0);
+                let each = self.asked.inside(shown, &array.element)?.size;
+                let elements = counted(count, "element");
+                let kind = type_text(&array.element, &self.source.names);
+                format!(
+                    "; {elements} of type {kind}, {} each",
+                    counted(each, "byte")
+                )
+            }
+            _ => String::new(),
+        };
+        Ok(format!(
+            "{head}: {size}, alignment {alignment}{leads}{more}"
+        ))
+    }
+}
+
+fn answer_text(answer: &Result<FixedLayout, layout::Refusal>) -> String {
+    match answer {
+        Ok(layout) => {
+            let offsets = counted(layout.offsets.len(), "offset");
+            let (size, alignment) = (layout.size, layout.alignment);
+            format!("size {size}, alignment {alignment} and {offsets}")
+        }
+        Err(refusal) => refusal.to_string(),
+    }
+}
+
+/// The attributes of a struct or union, and that it has no members.
+fn group_text(group: &Group) -> String {
+    let Attributes { packed, aligned } = group.attributes;
+    let mut out = String::new();
+    if packed {
+        out.push_str("; packed");
+    }
+    if aligned != 0 {
+        out.push_str(&format!("; aligned {aligned}"));
+    }
+    match (group.members.is_empty(), group.kind) {
+        (false, _) => {}
+        (true, GroupKind::Struct) => out.push_str("; no fields"),
+        (true, _) => out.push_str("; no members"),
+    }
+    out
+}
+
+/// A type in a few words, without its members. An array's own attributes count for nothing and are left out.
+pub fn type_text(node: &Type, names: &Names) -> String {
+    match node {
+        Type::Primitive(_) => words::type_word(node).to_string(),
+        Type::TypeRef(name) => format!("ref {}", names.short(*name)),
+        Type::Array(array) => {
+            let size = expression(&array.size, names);
+            format!("array [{size}] {}", type_text(&array.element, names))
+        }
+        Type::Group(group) => {
+            let word = words::group_word(group.kind);
+            let attributes = group_text(group).replace(';', ",");
+            format!("{word}{attributes}")
+        }
+    }
+}
+
+/// The rows of a table, as they are collected from a definition.
+struct Rows<'r, 'a> {
+    asked: &'r mut Asked<'a>,
+    names: &'r Names,
+    /// The definition that they are inside of.
+    place: usize,
+    rows: Vec<Row>,
+}
+
+impl<'a> Rows<'_, 'a> {
+    /// The rows of what stands inline in a type that starts at byte `base`.
+    fn inside(
+        &mut self,
+        node: &'a Type,
+        base: u64,
+        level: usize,
+        prefix: &str,
+    ) -> Result<(), String> {
+        match node {
+            Type::Group(group) => self.group(node, group, base, level, prefix),
+            Type::Array(array) if count(&array.size) != Some(0) => {
+                let first = format!("{prefix}[0]");
+                self.inside(&array.element, base, level, &first)
+            }
+            _ => Ok(()),
+        }
+    }
+
+    fn group(
+        &mut self,
+        node: &'a Type,
+        group: &'a Group,
+        base: u64,
+        level: usize,
+        prefix: &str,
+    ) -> Result<(), String> {
+        let whole = self.asked.inside(self.place, node)?;
+        let mut end = 0;
+        for (place, member) in group.members.iter().enumerate() {
+            let part = self.asked.inside(self.place, &member.member_type)?;
+            let offset = match group.kind {
+                GroupKind::Struct => {
+                    let offset = whole.offsets.get(place).copied();
+                    u64::from(
+                        offset.ok_or("the library gives fewer offsets than there are fields")?,
+                    )
+                }
+                _ => 0,
+            };
+            if group.kind == GroupKind::Struct {
+                self.space(base, end, offset, level, Content::Gap)?;
+            }
+            self.field(member, &part, base + offset, level, prefix);
+            self.inside(&member.member_type, base + offset, level + 1, "")?;
+            end = end.max(offset + part.size);
+        }
+        self.space(base, end, whole.size, level, Content::Padding)
+    }
+
+    fn field(
+        &mut self,
+        member: &Member,
+        part: &FixedLayout,
+        offset: u64,
+        level: usize,
+        prefix: &str,
+    ) {
+        let point = if prefix.is_empty() { "" } else { "." };
+        let name = self.names.short(member.name);
+        self.rows.push(Row {
+            level,
+            offset,
+            size: part.size,
+            content: Content::Field {
+                name: format!("{prefix}{point}{name}"),
+                type_text: type_text(&member.member_type, self.names),
+                alignment: part.alignment,
+            },
+        });
+    }
+
+    /// A row for the bytes from `end` to `start`, if there are any.
+    fn space(
+        &mut self,
+        base: u64,
+        end: u64,
+        start: u64,
+        level: usize,
+        content: Content,
+    ) -> Result<(), String> {
+        let size = start
+            .checked_sub(end)
+            .ok_or("the library gives fields that overlap")?;
+        if size > 0 {
+            self.rows.push(Row {
+                level,
+                offset: base + end,
+                size,
+                content,
+            });
+        }
+        Ok(())
+    }
+}
