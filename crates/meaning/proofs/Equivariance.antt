@@ -140,6 +140,10 @@ module _ (f : Exchange) (b : Bundle) (ok : Names (bundleNames b)) where
   pub circles-exchange : circles (mapBundle (f .to) b) ≡ circles b
   circles-exchange = circles-agreeing (f .to) (extend f) (extend-injective f) b agrees
 
+  -- what every map leaves that sends no two numbers to the same, an exchange leaves too
+  pub left-by-exchange : {A : Type 0} (g : Bundle → A) → ((h : ℕ → ℕ) → Injective h → (c : Bundle) → g (mapBundle h c) ≡ g c) → g (mapBundle (f .to) b) ≡ g b
+  left-by-exchange g left = ap g (bundle-same (f .to) (extend f) b agrees) ∙ left (extend f) (extend-injective f) b
+
 -- the renumbering, which is part of an exchange
 module _ (b : Bundle) (ok : Names (bundleNames b)) where
   abbrev pub renumbering : ℕ → ℕ

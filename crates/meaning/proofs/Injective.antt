@@ -55,7 +55,7 @@ module _ (f : ℕ → ℕ) (inj : Injective f) where
 
     -- Lookups.
 
-    count-map : count b′ ≡ count b
+    pub count-map : count b′ ≡ count b
     count-map = length-map (b .definitions) (mapDefinition f)
 
     definitionOf-map : (n : ℕ) → definitionOf b′ (f n) ≡ definitionOf b n
@@ -63,12 +63,12 @@ module _ (f : ℕ → ℕ) (inj : Injective f) where
         ap (λ ns. place ns (f n)) (map-map (λ d. d .name) (mapDefinition f) (b .definitions) ∙ sym (map-map f (λ d. d .name) (b .definitions)))
         ∙ place-map (map (λ d. d .name) (b .definitions)) n
 
-    typeAt-map : (i : ℕ) → typeAt b′ i ≡ Option·map (mapTy f) (typeAt b i)
+    pub typeAt-map : (i : ℕ) → typeAt b′ i ≡ Option·map (mapTy f) (typeAt b i)
     typeAt-map i =
         ap (λ ts. getElem? ts i) (map-map (λ d. d .type) (mapDefinition f) (b .definitions) ∙ sym (map-map (mapTy f) (λ d. d .type) (b .definitions)))
         ∙ getElem?-map (mapTy f) (map (λ d. d .type) (b .definitions)) i
 
-    findType-map : (n : ℕ) → findType b′ (f n) ≡ Option·map (mapTy f) (findType b n)
+    pub findType-map : (n : ℕ) → findType b′ (f n) ≡ Option·map (mapTy f) (findType b n)
     unfolding findType
     findType-map n = ap (typeAt b′) (definitionOf-map n) ∙ typeAt-map (definitionOf b n)
 

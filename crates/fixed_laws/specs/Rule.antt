@@ -1,0 +1,59 @@
+-- The layout rule (document 02, L1) as a relation: one case for each of its sentences. Sizes, alignments and offsets are natural numbers
+-- without a bound, and nothing here refuses.
+use Prim.Native.Nat.{ℕ, _+_, _*_, _%_, _≤_, max}
+use mathlib.Core.List.{List, [], _∷_}
+use mathlib.Core.Option.{some}
+use mathlib.Core.Path.{_≡_}
+use Rattle.meaning.specs.Tree.{Expr, Attributes, Ty, primitive, typeRef, struct, union, array, Member, Members, more, Bundle}
+use Rattle.meaning.specs.Lookup.{memberType, findType}
+use Rattle.meaning.specs.Sizes.{getPrimitiveSize}
+use Rattle.fixed_meaning.specs.Extent.{alignmentOf}
+use Rattle.fixed_meaning.specs.Fixed.{countOf}
+
+-- o is the next multiple of a, from n on
+pub record IsNext (n a o : ℕ) : Type 0 where
+  pub from : n ≤ o
+  pub multiple : o % a ≡ 0
+  pub least : (x : ℕ) → n ≤ x → x % a ≡ 0 → o ≤ x
+
+-- a field of alignment a lies at o, where the fields before it end at `end`: at the next multiple of a, in a packed struct without a gap
+pub data FieldAt (packed end a : ℕ) : ℕ → Type 0 where
+  close : packed ≡ 1 → FieldAt packed end a end
+  apart : {o : ℕ} → (packed ≡ 1 → ⊥) → IsNext end a o → FieldAt packed end a o
+
+mutual
+  -- a type has this size and this alignment
+  pub data Laid (b : Bundle) : Ty → ℕ → ℕ → Type 0 where
+    -- a primitive aligns to its size
+    aPrimitive : {k : ℕ} → Laid b (primitive k) (getPrimitiveSize k) (getPrimitiveSize k)
+    -- a struct puts its fields one behind the other and rounds its size up to its alignment
+    aStruct : {a : Attributes} {ms : Members} {os : List ℕ} {end most size : ℕ} → FieldsLaid b (a .packed) ms 0 os end most → IsNext end (alignmentOf a most) size → Laid b (struct a ms) size (alignmentOf a most)
+    -- a union has its largest member, or 0, rounded up
+    aUnion : {a : Attributes} {ms : Members} {largest most size : ℕ} → MembersLaid b ms largest most → IsNext largest (alignmentOf a most) size → Laid b (union a ms) size (alignmentOf a most)
+    -- an array is count times element size, aligned as its element
+    anArray : {a : Attributes} {jagged : ℕ} {e : Expr} {t : Ty} {count size alignment : ℕ} → (jagged ≡ 1 → ⊥) → countOf e ≡ some count → Laid b t size alignment → Laid b (array a jagged e t) (count * size) alignment
+    -- a TypeRef is its first definition
+    aReference : {n : ℕ} {t : Ty} {size alignment : ℕ} → findType b n ≡ some t → Laid b t size alignment → Laid b (typeRef n) size alignment
+
+  -- fields of a struct, packed or not, that start at `from` or behind it lie at os, the last ends at `end`, and `most` is their largest alignment, 1 if there is none
+  pub data FieldsLaid (b : Bundle) : ℕ → Members → ℕ → List ℕ → ℕ → ℕ → Type 0 where
+    noField : {packed end : ℕ} → FieldsLaid b packed Members.none end [] end 1
+    field : {packed : ℕ} {m : Member} {ms : Members} {from o size a : ℕ} {os : List ℕ} {end most : ℕ} → Laid b (memberType m) size a → FieldAt packed from a o → FieldsLaid b packed ms (o + size) os end most → FieldsLaid b packed (more m ms) from (o ∷ os) end (max a most)
+
+  -- the largest size of the members, 0 if there is none, and their largest alignment, 1 if there is none
+  pub data MembersLaid (b : Bundle) : Members → ℕ → ℕ → Type 0 where
+    noMember : MembersLaid b Members.none 0 1
+    oneMore : {m : Member} {ms : Members} {size a largest most : ℕ} → Laid b (memberType m) size a → MembersLaid b ms largest most → MembersLaid b (more m ms) (max size largest) (max a most)
+
+-- some field of those that start at `from` or behind it lies at o
+pub data HasField (b : Bundle) (packed : ℕ) : Members → ℕ → ℕ → Type 0 where
+  first : {m : Member} {ms : Members} {from o size a : ℕ} → Laid b (memberType m) size a → FieldAt packed from a o → HasField b packed (more m ms) from o
+  later : {m : Member} {ms : Members} {from o size a p : ℕ} → Laid b (memberType m) size a → FieldAt packed from a o → HasField b packed ms (o + size) p → HasField b packed (more m ms) from p
+
+-- the offsets of a type: those of a struct's fields, also by TypeRefs; others have none
+pub data Offsets (b : Bundle) : Ty → List ℕ → Type 0 where
+  ofStruct : {a : Attributes} {ms : Members} {os : List ℕ} {end most : ℕ} → FieldsLaid b (a .packed) ms 0 os end most → Offsets b (struct a ms) os
+  ofReference : {n : ℕ} {t : Ty} {os : List ℕ} → findType b n ≡ some t → Offsets b t os → Offsets b (typeRef n) os
+  ofPrimitive : {k : ℕ} → Offsets b (primitive k) []
+  ofUnion : {a : Attributes} {ms : Members} → Offsets b (union a ms) []
+  ofArray : {a : Attributes} {jagged : ℕ} {e : Expr} {t : Ty} → Offsets b (array a jagged e t) []
