@@ -111,8 +111,8 @@ fn cells(bundle: &Bundle) -> (Vec<String>, bool) {
 
 fn print_growth() {
     println!("Growth of the same from an eighth of a worst case to the whole. Time in step with");
-    println!("the bytes gives 8 in the column `time`. Cases with definitions and TypeRefs have more");
-    println!("of both at once: looking at each definition for each TypeRef gives some 66.");
+    println!("the bytes gives 8 in the column `time`. Cases with definitions and TypeRefs have");
+    println!("more of both at once: looking at each definition for each TypeRef gives some 66.");
     println!();
     let parts = [8, 4, 2, 1];
     let mut heads: Vec<String> = parts
