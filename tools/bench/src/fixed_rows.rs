@@ -13,8 +13,8 @@ const TARGET: Name = 2;
 const FILLER: Name = 60_000;
 /// Definitions that stand beside the first one, with one more that fills the rest.
 const MANY: Name = 254;
-/// A name that no definition has.
-const NOBODY: Name = 65_000;
+/// A name that no definition has, equal modulo 256 to those that `alike` gives.
+const NOBODY: Name = 256 * MANY + 7;
 
 const PLAUSIBLE: [(&str, Worst); 3] = [
     ("a head of the 140 definitions", realistic_head),
@@ -22,7 +22,7 @@ const PLAUSIBLE: [(&str, Worst); 3] = [
     ("a record of twenty fixed frames", inputs::fixed_frames),
 ];
 
-const WORST: [(&str, Worst); 16] = [
+const WORST: [(&str, Worst); 18] = [
     ("a small struct in a large bundle", small_one),
     ("a struct of U8 fields", many_bytes),
     ("a struct of U8 and U64 in turn", many_gaps),
@@ -31,7 +31,9 @@ const WORST: [(&str, Worst); 16] = [
     ("fields that lead to the last definition", to_the_last),
     ("fields that lead to 254 definitions", to_all),
     ("the same with names of few low bytes", to_names_alike),
-    ("the same with names that nobody has", to_nobody),
+    ("names of few low bytes, to the next", to_next_alike),
+    ("names of few low bytes, to the last", to_last_alike),
+    ("names of few low bytes, to nobody", to_nobody),
     ("254 levels, each held twice, of nothing", twice_nothing),
     ("254 levels, each held twice, of U8", twice_bytes),
     ("254 levels the other way round", twice_turned),
@@ -109,7 +111,8 @@ fn cells(bundle: &Bundle) -> (Vec<String>, bool) {
 
 fn print_growth() {
     println!("Growth of the same from an eighth of a worst case to the whole. Time in step with");
-    println!("the bytes gives 8 in the column `time`.");
+    println!("the bytes gives 8 in the column `time`. Cases with definitions and TypeRefs have");
+    println!("more of both at once: looking at each definition for each TypeRef gives some 66.");
     println!();
     let parts = [8, 4, 2, 1];
     let mut heads: Vec<String> = parts
@@ -227,6 +230,15 @@ fn alike(number: Name) -> Name {
 fn to_names_alike(bytes: usize) -> Bundle {
     let others = in_proportion(bytes);
     leading(bytes, others, &alike, &|number| alike(number % others))
+}
+
+fn to_next_alike(bytes: usize) -> Bundle {
+    leading(bytes, in_proportion(bytes), &alike, &|_| alike(0))
+}
+
+fn to_last_alike(bytes: usize) -> Bundle {
+    let others = in_proportion(bytes);
+    leading(bytes, others, &alike, &|_| alike(others - 1))
 }
 
 fn to_nobody(bytes: usize) -> Bundle {
