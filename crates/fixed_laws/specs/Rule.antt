@@ -1,6 +1,6 @@
 -- The layout rule (document 02, L1) as a relation: one case for each of its sentences. Sizes, alignments and offsets are natural numbers
 -- without a bound, and nothing here refuses.
-use Prim.Native.Nat.{ℕ, _+_, _*_, _%_, _≤_, max}
+use Prim.Native.Nat.{ℕ, _+_, _*_, _%_, _≤_, _<_, max}
 use mathlib.Core.List.{List, [], _∷_}
 use mathlib.Core.Option.{some}
 use mathlib.Core.Path.{_≡_}
@@ -10,11 +10,15 @@ use Rattle.meaning.specs.Sizes.{getPrimitiveSize}
 use Rattle.fixed_meaning.specs.Extent.{alignmentOf}
 use Rattle.fixed_meaning.specs.Fixed.{countOf}
 
+-- n is a multiple of a, where that is an alignment: 0 is none, and no accepted bundle has it
+abbrev pub Multiple : ℕ → ℕ → Type 0
+Multiple a n = 0 < a → n % a ≡ 0
+
 -- o is the next multiple of a, from n on
 pub record IsNext (n a o : ℕ) : Type 0 where
   pub from : n ≤ o
-  pub multiple : o % a ≡ 0
-  pub least : (x : ℕ) → n ≤ x → x % a ≡ 0 → o ≤ x
+  pub multiple : Multiple a o
+  pub least : (x : ℕ) → n ≤ x → Multiple a x → o ≤ x
 
 -- a field of alignment a lies at o, where the fields before it end at `end`: at the next multiple of a, in a packed struct without a gap
 pub data FieldAt (packed end a : ℕ) : ℕ → Type 0 where
@@ -25,25 +29,26 @@ mutual
   -- a type has this size and this alignment
   pub data Laid (b : Bundle) : Ty → ℕ → ℕ → Type 0 where
     -- a primitive aligns to its size
-    aPrimitive : {k : ℕ} → Laid b (primitive k) (getPrimitiveSize k) (getPrimitiveSize k)
+    aPrimitive : {k size alignment : ℕ} → size ≡ getPrimitiveSize k → alignment ≡ size → Laid b (primitive k) size alignment
     -- a struct puts its fields one behind the other and rounds its size up to its alignment
-    aStruct : {a : Attributes} {ms : Members} {os : List ℕ} {end most size : ℕ} → FieldsLaid b (a .packed) ms 0 os end most → IsNext end (alignmentOf a most) size → Laid b (struct a ms) size (alignmentOf a most)
+    aStruct : {a : Attributes} {ms : Members} {os : List ℕ} {end most size alignment : ℕ} → FieldsLaid b (a .packed) ms 0 os end most → alignment ≡ alignmentOf a most → IsNext end alignment size → Laid b (struct a ms) size alignment
     -- a union has its largest member, or 0, rounded up
-    aUnion : {a : Attributes} {ms : Members} {largest most size : ℕ} → MembersLaid b ms largest most → IsNext largest (alignmentOf a most) size → Laid b (union a ms) size (alignmentOf a most)
+    aUnion : {a : Attributes} {ms : Members} {greatest most size alignment : ℕ} → MembersLaid b ms greatest most → alignment ≡ alignmentOf a most → IsNext greatest alignment size → Laid b (union a ms) size alignment
     -- an array is count times element size, aligned as its element
-    anArray : {a : Attributes} {jagged : ℕ} {e : Expr} {t : Ty} {count size alignment : ℕ} → (jagged ≡ 1 → ⊥) → countOf e ≡ some count → Laid b t size alignment → Laid b (array a jagged e t) (count * size) alignment
+    anArray : {a : Attributes} {jagged : ℕ} {e : Expr} {t : Ty} {count each size alignment : ℕ} → (jagged ≡ 1 → ⊥) → countOf e ≡ some count → Laid b t each alignment → size ≡ count * each → Laid b (array a jagged e t) size alignment
     -- a TypeRef is its first definition
     aReference : {n : ℕ} {t : Ty} {size alignment : ℕ} → findType b n ≡ some t → Laid b t size alignment → Laid b (typeRef n) size alignment
 
-  -- fields of a struct, packed or not, that start at `from` or behind it lie at os, the last ends at `end`, and `most` is their largest alignment, 1 if there is none
+  -- fields of a struct, packed or not, that start at `from` or behind it lie at os, the last ends at `end`, and `most` is their largest
+  -- alignment, 1 if there is none
   pub data FieldsLaid (b : Bundle) : ℕ → Members → ℕ → List ℕ → ℕ → ℕ → Type 0 where
-    noField : {packed end : ℕ} → FieldsLaid b packed Members.none end [] end 1
-    field : {packed : ℕ} {m : Member} {ms : Members} {from o size a : ℕ} {os : List ℕ} {end most : ℕ} → Laid b (memberType m) size a → FieldAt packed from a o → FieldsLaid b packed ms (o + size) os end most → FieldsLaid b packed (more m ms) from (o ∷ os) end (max a most)
+    noField : {packed from end most : ℕ} → end ≡ from → most ≡ 1 → FieldsLaid b packed Members.none from [] end most
+    field : {packed : ℕ} {m : Member} {ms : Members} {from o size a : ℕ} {os : List ℕ} {end others most : ℕ} → Laid b (memberType m) size a → FieldAt packed from a o → FieldsLaid b packed ms (o + size) os end others → most ≡ max a others → FieldsLaid b packed (more m ms) from (o ∷ os) end most
 
   -- the largest size of the members, 0 if there is none, and their largest alignment, 1 if there is none
   pub data MembersLaid (b : Bundle) : Members → ℕ → ℕ → Type 0 where
-    noMember : MembersLaid b Members.none 0 1
-    oneMore : {m : Member} {ms : Members} {size a largest most : ℕ} → Laid b (memberType m) size a → MembersLaid b ms largest most → MembersLaid b (more m ms) (max size largest) (max a most)
+    noMember : {greatest most : ℕ} → greatest ≡ 0 → most ≡ 1 → MembersLaid b Members.none greatest most
+    oneMore : {m : Member} {ms : Members} {size a before others greatest most : ℕ} → Laid b (memberType m) size a → MembersLaid b ms before others → greatest ≡ max size before → most ≡ max a others → MembersLaid b (more m ms) greatest most
 
 -- some field of those that start at `from` or behind it lies at o
 pub data HasField (b : Bundle) (packed : ℕ) : Members → ℕ → ℕ → Type 0 where

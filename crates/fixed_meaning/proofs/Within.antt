@@ -61,11 +61,11 @@ module _ (known known′ : ℕ → Extent) where
   offsets-local (sizeUnion a ms) through h = refl
 
 -- what is found has a definition, and leads where the names of its type lead
-found-below : (b : Bundle) (n : ℕ) {t : Ty} → findType b n ≡ some t → definitionOf b n < count b
+pub found-below : (b : Bundle) (n : ℕ) {t : Ty} → findType b n ≡ some t → definitionOf b n < count b
 unfolding findType
 found-below b n e = rw length-map at (getElem?-below (map (λ d. d .type) (b .definitions)) (definitionOf b n) e)
 
-found-leads : (b : Bundle) (n : ℕ) {t : Ty} → findType b n ≡ some t → leadsTo b (definitionOf b n) ≡ resolve b (typeNames t)
+pub found-leads : (b : Bundle) (n : ℕ) {t : Ty} → findType b n ≡ some t → leadsTo b (definitionOf b n) ≡ resolve b (typeNames t)
 unfolding findType leadsTo
 found-leads b n e = ap (λ o. resolve b (namesIn o)) e
 
