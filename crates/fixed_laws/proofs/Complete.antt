@@ -127,27 +127,38 @@ module _ (b : Bundle) (c : circles b ≡ false) where
             let i : max (max before x) less ≡ max before greatest = omega (arith, g .0, v) in
             agrees-same (measureAll withMember ms (sized (max before x) (max so y)) E) i z (ih (max before x) (max so y) (omega arith))
 
+  -- a field that is joined to others, of which all have an extent, and what follows it
+  record Joined (packed : ℕ) (m : Member) (ms : Members) (from so size end most : ℕ) (o : ℕ) : Type 0 where
+    pub top : ℕ
+    pub rest : measureAll (withField packed) ms (sized (o + size) top) E ≡ sized end most
+    pub offsets : fieldOffsets packed (more m ms) (sized from so) E ≡ o ∷ fieldOffsets packed ms (sized (o + size) top) E
+
+  joined : {packed from o size a : ℕ} (m : Member) (ms : Members) → Laid b (memberType m) size a → FieldAt packed from a o → (so end most : ℕ)
+      → measureAll (withField packed) (more m ms) (sized from so) E ≡ sized end most → Joined packed m ms from so size end most o
+  unfolding bounded withField fieldOffsets
+  joined {packed} {from} {o} {size} {a} m ms l f so end most e = go (measureMember m E) refl (subst (λ x. Agrees x size a) (of-member m E) (type-agrees l)) e
+    where
+      go : (x : Extent) → measureMember m E ≡ x → Agrees x size a → measureAll (withField packed) ms (withField packed (sized from so) x) E ≡ sized end most → Joined packed m ms from so size end most o
+      go (unsized k) p g e = absurd (all-stays E (withField packed) (field-stays packed) ms k e)
+      go (sized x y) p g e = by (leb (offsetOf packed from y) largest) refl e
+        where
+          lies : offsetOf packed from y ≡ o
+          lies = one-field (field-at packed from y) (subst (λ z. FieldAt packed from z o) (sym (g .1)) f)
+
+          by : (t : Bool) → leb (offsetOf packed from y) largest ≡ t → measureAll (withField packed) ms (cond t (sized (offsetOf packed from y + x) (max so y)) (unsized 12)) E ≡ sized end most
+              → Joined packed m ms from so size end most o
+          by true q e = record { top = max so y; rest = rw (lies, g .0) at e; offsets = rw (p, q, lies, g .0) }
+          by false q e = absurd (all-stays E (withField packed) (field-stays packed) ms 12 e)
+
   -- a field of a struct that has an extent
   pub has-field : {packed : ℕ} {ms : Members} {from o : ℕ} → HasField b packed ms from o → (so end most : ℕ) → measureAll (withField packed) ms (sized from so) E ≡ sized end most → List·Memᴰ o (fieldOffsets packed ms (sized from so) E)
-  unfolding bounded withField fieldOffsets
-  has-field {packed} (first {m} {ms} {from} {o} {size} {a} l f) so end most e = go (measureMember m E) (subst (λ x. Agrees x size a) (of-member m E) (type-agrees l)) e
-    where
-      go : (x : Extent) → Agrees x size a → measureAll (withField packed) ms (withField packed (sized from so) x) E ≡ sized end most
-          → List·Memᴰ o (fieldOffset packed (sized from so) x ∷ fieldOffsets packed ms (withField packed (sized from so) x) E)
-      go (unsized k) g e = absurd (all-stays E (withField packed) (field-stays packed) ms k e)
-      go (sized x y) g e = List·Memᴰ·head (sym (one-field (field-at packed from y) (subst (λ z. FieldAt packed from z o) (sym (g .1)) f)))
-  has-field {packed} (later {m} {ms} {from} {o} {size} {a} {p} l f r) so end most e = go (measureMember m E) (subst (λ x. Agrees x size a) (of-member m E) (type-agrees l)) e (λ y q. has-field r y end most q)
-    where
-      go : (x : Extent) → Agrees x size a → measureAll (withField packed) ms (withField packed (sized from so) x) E ≡ sized end most
-          → ((y : ℕ) → measureAll (withField packed) ms (sized (o + size) y) E ≡ sized end most → List·Memᴰ p (fieldOffsets packed ms (sized (o + size) y) E))
-          → List·Memᴰ p (fieldOffset packed (sized from so) x ∷ fieldOffsets packed ms (withField packed (sized from so) x) E)
-      go (unsized k) g e ih = absurd (all-stays E (withField packed) (field-stays packed) ms k e)
-      go (sized x y) g e ih = by (leb (offsetOf packed from y) largest) e
-        where
-          place : offsetOf packed from y + x ≡ o + size
-          place = ap₂ _+_ (one-field (field-at packed from y) (subst (λ z. FieldAt packed from z o) (sym (g .1)) f)) (g .0)
+  has-field {packed} (first {m} {ms} {from} {o} l f) so end most e = let j = joined m ms l f so end most e in rw (j .offsets) (List·Memᴰ·head refl)
+  has-field {packed} (later {m} {ms} {from} {o} {size} {a} {p} l f r) so end most e =
+      let j = joined m ms l f so end most e in rw (j .offsets) (List·Memᴰ·tail (has-field r (j .top) end most (j .rest)))
 
-          by : (t : Bool) → measureAll (withField packed) ms (cond t (sized (offsetOf packed from y + x) (max so y)) (unsized 12)) E ≡ sized end most
-              → List·Memᴰ p (offsetOf packed from y ∷ fieldOffsets packed ms (cond t (sized (offsetOf packed from y + x) (max so y)) (unsized 12)) E)
-          by true e = List·Memᴰ·tail (subst (λ i. List·Memᴰ p (fieldOffsets packed ms (sized i (max so y)) E)) (sym place) (ih (max so y) (rw place at e)))
-          by false e = absurd (all-stays E (withField packed) (field-stays packed) ms 12 e)
+  -- all of its fields
+  pub fields-are : {packed from end most : ℕ} {ms : Members} {os : List ℕ} → FieldsLaid b packed ms from os end most → (so n al : ℕ) → measureAll (withField packed) ms (sized from so) E ≡ sized n al → os ≡ fieldOffsets packed ms (sized from so) E
+  unfolding fieldOffsets
+  fields-are (noField p q) so n al e = refl
+  fields-are (field {packed} {m} {ms} {from} {o} {size} {a} {os} l f r q) so n al e =
+      let j = joined m ms l f so n al e in ap (o ∷_) (fields-are r (j .top) n al (j .rest)) ∙ sym (j .offsets)

@@ -23,7 +23,7 @@ use Rattle.fixed_laws.proofs.Refusals.{fixed-parts}
 use Rattle.fixed_laws.proofs.Causes.{refusal-cause}
 use Rattle.fixed_laws.proofs.Least.{refusal-least}
 use Rattle.fixed_laws.proofs.Sound.{no-size, same-size, closed-sized, varying-no, field-at, type-laid, member-laid, fields-laid, members-laid, extent-laid}
-use Rattle.fixed_laws.proofs.Complete.{Agrees, type-agrees, has-field}
+use Rattle.fixed_laws.proofs.Complete.{Agrees, type-agrees, has-field, fields-are}
 
 module _ (b : Bundle) (c : circles b ≡ false) where
   abbrev E : ℕ → Extent
@@ -150,16 +150,43 @@ module _ (b : Bundle) (c : circles b ≡ false) where
         none-refused t e,
       )
 
+  -- there is one layout at most
+  one-offsets : {t : Ty} {os ps : List ℕ} → Offsets b t os → Offsets b t ps → (n a : ℕ) → measure t E ≡ sized n a → os ≡ ps
+  unfolding measured
+  one-offsets (ofStruct {a = at} {ms} f) (ofStruct g) n a e = let d = closed-sized at _ e in fields-are b c f 1 (d .0) (d .1 .0) (d .1 .1 .0) ∙ sym (fields-are b c g 1 (d .0) (d .1 .0) (d .1 .1 .0))
+  one-offsets (ofReference {n = m} {t} p o) (ofReference {t = u} {os} q r) n a e =
+      let z : u ≡ t = let y : some u ≡ some t = sym q ∙ p in cc in
+      one-offsets {ps = os} o (subst (λ x. Offsets b x os) z r) n a (sym (extent-equation b c m ∙ ap (λ o. measured o E) p) ∙ e)
+  one-offsets ofPrimitive ofPrimitive n a e = refl
+  one-offsets ofUnion ofUnion n a e = refl
+  one-offsets ofArray ofArray n a e = refl
+
+  pub one-layout : (i n a : ℕ) → definitionExtent b i ≡ sized n a → (m d : ℕ) (xs : List ℕ) → HasLayout b (typeAt b i) m d xs → (m ≡ n) × ((d ≡ a) × (xs ≡ definitionOffsets b i))
+  unfolding definitionExtent measured
+  one-layout i n a e m d xs h =
+      let t = h .type in
+      let f = fixed i n a e .0 in
+      let same : f .type ≡ t = let y : some (f .type) ≡ some t = sym (f .is) ∙ h .is in cc in
+      let q : measure t E ≡ sized n a = sym (ap (λ o. measured o E) (h .is)) ∙ e in
+      let g : (n ≡ m) × (a ≡ d) = subst (λ x. Agrees x m d) q (type-agrees b c (h .laid)) in
+      (sym (g .0), (sym (g .1), one-offsets (h .at) (subst (λ x. Offsets b x (definitionOffsets b i)) same (f .at)) n a q))
+
   pub unfixed : (i k : ℕ) → definitionExtent b i ≡ unsized k → Unfixed b (typeAt b i) k
   unfolding definitionExtent measured
   unfixed i k e = go (typeAt b i) e
     where
+      -- a smaller number has no reason
+      aligned : (t : Ty) (k : ℕ) → measure t E ≡ unsized k → 10 < k → SomeReached b t BadlyAligned → ⊥
+      aligned t k e l s = omega (arith, refusal-least b c k e (s .1 .0) (own.ten (s .1 .1)))
+
+      varied : (t : Ty) (k : ℕ) → measure t E ≡ unsized k → 11 < k → SomeReached b t (Varies b) → ⊥
+      varied t k e l s = omega (arith, refusal-least b c k e (s .1 .0) (own.eleven (s .1 .1)))
+
       by : (t u : Ty) (k : ℕ) → measure t E ≡ unsized k → Reached b t u → Own b E u k → Unfixed b (some t) k
       by t u k e r (own.ten p) = ten (u, (r, p))
-      by t u k e r (own.eleven p) = eleven (λ s. absurd (omega (arith, refusal-least b c k e (s .1 .0) (own.ten (s .1 .1))))) (u, (r, p))
+      by t u k e r (own.eleven p) = eleven (aligned t k e (omega arith)) (u, (r, p))
       by t u k e r (own.twelve p) =
-          let varies : SomeReached b t (Varies b) → ⊥ = λ s. omega (arith, refusal-least b c k e (s .1 .0) (own.eleven (s .1 .1))) in
-          twelve (λ s. omega (arith, refusal-least b c k e (s .1 .0) (own.ten (s .1 .1)))) varies (u, (r, over-large (λ v. varies (u, (r, v))) p))
+          twelve (aligned t k e (omega arith)) (varied t k e (omega arith)) (u, (r, over-large (λ v. varied t k e (omega arith) (u, (r, v))) p))
 
       go : (o : Option Ty) → measured o E ≡ unsized k → Unfixed b o k
       go none e = let z : _≡_ {A = ℕ} 11 k = cc in subst (Unfixed b none) z noSuchNumber

@@ -19,7 +19,7 @@ use Rattle.refusals.proofs.Laws.{one-number}
 use Rattle.demands.specs.Demands.{Nothing, Demand1}
 use Rattle.demands.proofs.Answering.{refused-number, accept-demand}
 use Rattle.fixed_meaning.specs.Fixed.{sizing, placing}
-use Rattle.fixed_demand.proofs.Numbers.{fixed-number}
+use Rattle.fixed_demand.proofs.Answering.{fixed-number}
 use Rattle.offsets.specs.declared.Fixed.{Fixed}
 use Rattle.offsets.specs.declared.Fixed.the-variants.{Sized, Refused}
 use Rattle.offsets.specs.Placed as placed
