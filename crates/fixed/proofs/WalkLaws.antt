@@ -1,25 +1,21 @@
 -- The answers of the walk that measures the definitions, each in the form in which the code returns it.
-use Prim.Native.Nat.{ℕ, zero, suc, _+_, _-_, _*_, _≤_, _<_}
+use Prim.Native.Nat.{ℕ, _+_, _-_, _*_, _≤_, _<_}
 use native.Mathlib.Omega.{arith}
 use mathlib.Core.Bool.{Bool, true, false}
-use mathlib.Core.Logic.{_⊎_, inl, inr, ⊎-elim}
 use borrow.Author.Tests.{lt-ltb, le-ltb}
-use mathlib.Core.Option.{some}
 use mathlib.Core.Path.{_≡_, refl, sym, ap, ap₂, subst, _∙_}
-use mathlib.Core.List.{List, [], _∷_, _++_, List·Memᴰ, List·Memᴰ·head, List·Memᴰ·eq-of-singleton, Memᴰ·append-left, Memᴰ·append-right}
-use lib.Dec.{eqb, leb}
-use lib.ListN.{length, getD, set, replicate, length-set}
-use lib.Seq.{getD-set-same, getD-set-other}
-use Rattle.meaning.specs.Circle.{typeNames, typeNamesOfMembers, settled, circles}
+use mathlib.Core.List.{List}
+use lib.Dec.{leb}
+use lib.ListN.{getD}
 use Rattle.meaning.specs.Kinds.{Form, OfType, Primitive, TypeRef, Struct, Union, Enum, Array, SizeUnion}
-use Rattle.meaning.specs.Lookup.{count, definitionOf, findType}
+use Rattle.meaning.specs.Lookup.{count, definitionOf}
 use Rattle.meaning.specs.Lookup as lookup
-use Rattle.meaning.specs.Reader.{Read, ok, refused, after, due, check, many, little}
+use Rattle.meaning.specs.Reader.{Read, ok, refused, after, due, check, little}
 use Rattle.meaning.specs.ReadExpr.{readExpr, body}
 use Rattle.meaning.specs.ReadType.{Head, Group, head, arrayHead, memberHead, readMember, readMembers, readGroup, readEnum, readArray, readTy}
-use Rattle.meaning.specs.Tree.{Expr, Attributes, Ty, primitive, typeRef, struct, union, enum, array, sizeUnion, member, Members, none, more}
+use Rattle.meaning.specs.Tree.{primitive, struct, union, enum, array, sizeUnion, none, more}
 use Rattle.meaning.specs.Sizes.{getPrimitiveSize}
-use Rattle.meaning.proofs.Readings.{due-ok, went, there}
+use Rattle.meaning.proofs.Readings.{went, there}
 use Rattle.bundle.specs.declared.Count.the-variants.{Of}
 use Rattle.bundle.specs.declared.Step.{Step}
 use Rattle.bundle.specs.declared.Step.the-variants.{Next, Refused}
@@ -28,20 +24,19 @@ use Rattle.bundle.specs.Definitions.{typeAt, membersAt, zeroGroup, bundleOf, Ta
 use Rattle.bundle.specs.Expressions.{exprAt}
 use Rattle.bundle.proofs.ExprLaws.{Opened}
 use Rattle.bundle.proofs.Steps.{many-none}
-use Rattle.bundle.proofs.LookupLaws.{placed-at, placed-type, found-none}
-use Rattle.bundle.proofs.TypeLaws.{primitive-ends, struct-ends, union-ends, sizeUnion-ends, enum-ends, array-ends, group-ends, enum-members, array-element, enum-tag-refused, array-size-refused, typeRef-ends}
-use Rattle.bundle.proofs.TypeTrees.{zeroHead, head-last, primitive-tree, typeRef-reads, typeRef-tree, struct-tree, union-tree, sizeUnion-tree, enum-tree, array-tree, group-value, group-reads, enum-value, array-value, array-last}
+use Rattle.bundle.proofs.TypeLaws.{primitive-ends, group-ends, enum-members, array-element, enum-tag-refused, array-size-refused, typeRef-ends}
+use Rattle.bundle.proofs.TypeTrees.{zeroHead, head-last, primitive-tree, typeRef-reads, struct-tree, union-tree, sizeUnion-tree, enum-tree, array-tree, group-value, group-reads, enum-value, array-value, array-last}
 use Rattle.bundle.proofs.Heads.{body-where, head-where, array-where}
 use Rattle.bundle.proofs.Trees.{first-read, refused-no, ended-reads, ended, then-value, made-value}
-use Rattle.bundle.proofs.PartTrees.{member-type-reads, others-read, members-split}
+use Rattle.bundle.proofs.PartTrees.{others-read, members-split}
 use Rattle.bundle.proofs.Parts.{others-end, members-none, typeRef-is as typeRef-found}
 use Rattle.fixed_meaning.specs.Extent as meaning
-use Rattle.fixed_meaning.specs.Extent.{sized, unsized, largest, withField, withMember, varying, closed, arrayOf}
-use Rattle.fixed_meaning.specs.Fixed.{countOf as sizeCount, measure, measureAll, measured, extentOf, definitionExtent}
+use Rattle.fixed_meaning.specs.Extent.{sized, largest, closed, arrayOf}
+use Rattle.fixed_meaning.specs.Fixed.{countOf as sizeCount}
 use Rattle.extents.specs.declared.Extent.{Extent}
 use Rattle.extents.specs.declared.Extent.the-variants.{Sized, Unsized}
 use Rattle.extents.specs.declared.Counted.{Counted}
-use Rattle.extents.specs.Meant.{extentMeant, countMeant, Fits, Part, Open, attributes, joinOf, closeOf}
+use Rattle.extents.specs.Meant.{extentMeant, countMeant, Part, Open, attributes, joinOf, closeOf}
 use Rattle.fixed.specs.declared.Measured.{Measured}
 use Rattle.fixed.specs.Kept.{keptAt, Sound, known}
 use Rattle.fixed.specs.Walk.{partOf, membersOf, groupOf, IsRead}

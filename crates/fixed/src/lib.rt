@@ -1,9 +1,7 @@
 // The size and alignment of types, where those of the definitions are kept.
-use bundle::ExprForm;
 use bundle::Form;
 use bundle::Step;
 use bundle::TypeForm;
-use extents::Counted;
 use extents::Extent;
 ghost use mathlib.Core.Path.{_≡_};
 ghost use Prim.Native.Nat.{_+_, _≤_, _<_};
@@ -15,10 +13,8 @@ ghost use Rattle.meaning.specs.ReadType.{readTy, readMembers, readGroup, readEn
 ghost use Rattle.meaning.specs.Sizes.{getPrimitiveSize};
 ghost use Rattle.bundle.specs.View.{Reads};
 ghost use Rattle.bundle.specs.Definitions.{Table};
-ghost use Rattle.bundle.specs.Expressions.{exprAt};
 ghost use Rattle.fixed_meaning.specs.Extent.{sized};
-ghost use Rattle.fixed_meaning.specs.Fixed.{signedLimit, literalCount, countOf};
-ghost use Rattle.extents.specs.Meant.{extentMeant, countMeant, Part, Open, attributes, closeOf};
+ghost use Rattle.extents.specs.Meant.{extentMeant, Part, Open, attributes, closeOf};
 ghost use Rattle.fixed.specs.Kept.{keptAs, known, Sound};
 ghost use Rattle.fixed.specs.Walk.{TypeMeasured, MembersMeasured, GroupMeasured};
 
@@ -29,70 +25,6 @@ pub const KEPT: usize = 512;
 pub struct Measured {
     pub extent: Extent,
     pub end: usize,
-}
-
-// The number in the `w` bytes at `at`.
-fn number_at(s: &[u8], at: usize, w: usize) -> u64
-    requires { ⌜ (at + w ≤ length (now s)) × (w ≤ 8) ⌝ }
-    ensures { λ r. ⌜ r ≡ little (now (s .entry)) at w ⌝ }
-{
-    let mut value: u64 = 0;
-    let mut i = w;
-    while 0 < i {
-        i -= 1;
-        value = value * 256 + (s[at + i] as u64);
-    }
-    value
-}
-
-// The first number that a literal of this kind has no room for, where the kind is signed.
-fn signed_limit(kind: u8) -> u64
-    requires { ⌜ 4 < kind ⌝ }
-    ensures { λ r. ⌜ r ≡ signedLimit kind ⌝ }
-{
-    if kind == 5 {
-        return 9223372036854775808;
-    }
-    if kind == 6 {
-        return 2147483648;
-    }
-    if kind == 7 {
-        return 32768;
-    }
-    if kind == 8 { 128 } else { 1 }
-}
-
-// The value of a literal, where it is not negative.
-fn literal_count(kind: u8, value: u64) -> Counted
-    ensures { λ r. ⌜ countMeant r ≡ literalCount kind value ⌝ }
-{
-    if kind <= 4 {
-        return Counted::Of(value);
-    }
-    if value < signed_limit(kind) {
-        return Counted::Of(value);
-    }
-    Counted::Nothing
-}
-
-// The count of an array whose size was read at `at`.
-fn count_of(s: &[u8], at: usize, depth: usize) -> Counted
-    requires { ⌜ Reads (readExpr depth (now s) at) ⌝ }
-    ensures { λ r. ⌜ countMeant r ≡ countOf (exprAt depth (now (s .entry)) at) ⌝ }
-{
-    let kind = s[at];
-    let form = bundle::form_of(kind);
-    let Form::OfExpr(e) = form else {
-        return Counted::Nothing;
-    };
-    match e {
-        ExprForm::Literal(w) => literal_count(kind, number_at(s, at + 1, w as usize)),
-        ExprForm::FieldRef(_) => Counted::Nothing,
-        ExprForm::Sizeof => Counted::Nothing,
-        ExprForm::Alignof => Counted::Nothing,
-        ExprForm::Binary => Counted::Nothing,
-        ExprForm::Unary => Counted::Nothing,
-    }
 }
 
 // A primitive aligns to its size.
@@ -119,7 +51,7 @@ fn closed_at(s: &[u8], at: usize, kind: u8, so: Extent) -> Extent
     requires { ⌜ (at + 9 ≤ length (now s)) × Open so ⌝ }
     ensures { λ r. ⌜ (extentMeant r ≡ closeOf kind (attributes (getD (now (s .entry)) at 0) (little (now (s .entry)) (at + 1) 8)) (extentMeant so)) × Part r ⌝ }
 {
-    extents::close(kind, s[at], number_at(s, at + 1, 8), so)
+    extents::close(kind, s[at], counts::number_at(s, at + 1, 8), so)
 }
 
 // The extent of the first definition of the name at `at`.
@@ -241,7 +173,7 @@ fn measure_array(
             end: at,
         };
     };
-    let counted = count_of(s, at + 10, depth);
+    let counted = counts::count_of(s, at + 10, depth);
     let m = measure_type(s, places, count, kept, after, depth);
     let e = m.extent;
     Measured {

@@ -1,10 +1,9 @@
 -- A definition is measured after those to which its records lead: what is known before, between and after these records.
-use Prim.Native.Nat.{ℕ, zero, suc, _+_, _-_, _≤_, _<_}
+use Prim.Native.Nat.{ℕ, suc, _+_, _-_, _≤_, _<_}
 use native.Mathlib.Omega.{arith}
 use mathlib.Core.Bool.{Bool, true, false}
 use mathlib.Core.List.{List, [], _∷_, List·Memᴰ, List·Memᴰ·head, List·Memᴰ·tail, List·Memᴰ·not-nil, List·Memᴰ·eq-of-singleton}
 use mathlib.Core.Logic.{_⊎_, inl, inr, ⊎-elim}
-use mathlib.Core.Option.{none, some}
 use mathlib.Core.Path.{_≡_, refl, sym, ap, subst, _∙_}
 use lib.Dec.{eqb, ltb}
 use lib.ListN.{length, getD, set, replicate, length-set}
@@ -20,7 +19,6 @@ use Rattle.bundle.specs.Definitions.{typeAt, bundleOf, Table}
 use Rattle.bundle.proofs.LookupLaws.{placed-type, found-none}
 use Rattle.scan.specs.Parts.{Part, typeParts}
 use Rattle.scan.specs.Scan.{recordName, partAt, Run, Records, leadTo, stops, fromStop, NextStop}
-use Rattle.scan.proofs.PartLaws.{type-names}
 use Rattle.scan.proofs.ScanLaws.{run-none, Lead, first-lead, stop-leads, from-names}
 use Rattle.scan.proofs.Walks.{lead-none, lead-one, definition-flat, definition-lead}
 use Rattle.fixed_meaning.specs.Extent as meaning

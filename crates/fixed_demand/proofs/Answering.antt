@@ -4,13 +4,13 @@ use native.Mathlib.Omega.{arith}
 use mathlib.Core.Bool.{false}
 use mathlib.Core.List.{List, [], _∷_}
 use mathlib.Core.Logic.{_⊎_, inl, inr}
-use mathlib.Core.Path.{_≡_, refl, sym, ap, subst, _∙_}
+use mathlib.Core.Path.{_≡_, refl, sym, ap, _∙_}
 use lib.ListN.{length}
 use Rattle.meaning.specs.Tree.{Bundle}
 use Rattle.meaning.specs.Lookup.{typeAt}
 use Rattle.meaning.specs.Encoding.{Bytes}
 use Rattle.meaning.specs.Circle.{circles}
-use Rattle.meaning.specs.Calls.{Outcome, result, refusal, refusedWith, answerOf}
+use Rattle.meaning.specs.Calls.{result, refusal, refusedWith, answerOf}
 use Rattle.refusals.specs.Numbers.{Keeps}
 use Rattle.demands.specs.Demands.{Refused}
 use Rattle.demands.proofs.Kept.{kept-accepted, cases}

@@ -1,23 +1,23 @@
 -- What the rule lays is measured: where the rule gives a type a size and alignment, its extent is these, or it is refused.
 --     type-agrees      a type
 --     has-field        a field of a struct that has an extent is among its offsets
-use Prim.Native.Nat.{ℕ, zero, suc, _+_, _*_, _≤_, max}
+use Prim.Native.Nat.{ℕ, _+_, _*_, _≤_, max}
 use native.Mathlib.Omega.{arith}
 use mathlib.Core.Bool.{Bool, true, false, cond}
-use mathlib.Core.List.{List, [], _∷_, List·Memᴰ, List·Memᴰ·head, List·Memᴰ·tail}
-use mathlib.Core.Option.{Option, some}
+use mathlib.Core.List.{List, _∷_, List·Memᴰ, List·Memᴰ·head, List·Memᴰ·tail}
+use mathlib.Core.Option.{some}
 use mathlib.Core.Path.{_≡_, refl, sym, ap, ap₂, subst, _∙_}
-use lib.Dec.{eqb, leb}
-use borrow.Author.Tests.{eqb-true, ne-eqb}
+use lib.Dec.{leb}
+use borrow.Author.Tests.{ne-eqb}
 use Rattle.meaning.specs.Circle.{circles}
-use Rattle.meaning.specs.Lookup.{memberType, findType}
-use Rattle.meaning.specs.Tree.{Attributes, Ty, struct, union, Member, member, Members, more, Bundle}
+use Rattle.meaning.specs.Lookup.{memberType}
+use Rattle.meaning.specs.Tree.{Attributes, Ty, struct, Member, member, Members, more, Bundle}
 use Rattle.fixed_meaning.specs.Extent.{Extent, sized, unsized, largest, bounded, roundUp, offsetOf, withField, withMember, isAlignment, alignmentOf, rounded, closed, repeated, arrayOf}
-use Rattle.fixed_meaning.specs.Fixed.{countOf, measure, measureMember, measureAll, measured, extentOf, fieldOffset, fieldOffsets}
+use Rattle.fixed_meaning.specs.Fixed.{measure, measureMember, measureAll, measured, extentOf, fieldOffsets}
 use Rattle.fixed_meaning.proofs.Within.{extent-equation}
 use Rattle.fixed_laws.specs.Rule.{IsNext, FieldAt, close, apart, Laid, aPrimitive, aStruct, aUnion, anArray, aReference, FieldsLaid, noField, field, MembersLaid, noMember, oneMore, HasField, first, later}
 use Rattle.fixed_laws.proofs.Rounding.{round-next, one-next}
-use Rattle.fixed_laws.proofs.Sound.{no-size, all-stays, field-stays, member-stays, field-at}
+use Rattle.fixed_laws.proofs.Sound.{all-stays, field-stays, member-stays, field-at}
 
 -- an extent, where there is one, is this size and alignment
 abbrev pub Agrees : Extent → ℕ → ℕ → Type 0

@@ -1,23 +1,23 @@
 -- What is due for fixed sizes is what the rule says, and its refusals are those of the reached parts: the laws of `Rules`.
 use Prim.Native.Nat.{ℕ, zero, suc, _+_, _≤_, _<_, min, max}
 use native.Mathlib.Omega.{arith}
-use mathlib.Core.Bool.{Bool, true, false, cond}
+use mathlib.Core.Bool.{Bool, true, false}
 use mathlib.Core.List.{List, List·Memᴰ, List·Memᴰ·head}
 use mathlib.Core.Option.{Option, none, some}
 use mathlib.Core.Path.{_≡_, refl, sym, ap, subst, _∙_}
 use lib.Dec.{leb}
 use Rattle.meaning.specs.Circle.{typeNames, settled, circles}
 use Rattle.meaning.specs.Lookup.{count, definitionOf, typeAt, findType}
-use Rattle.meaning.specs.Tree.{Attributes, Ty, primitive, typeRef, struct, union, enum, array, sizeUnion, Members, more, Bundle}
+use Rattle.meaning.specs.Tree.{Ty, primitive, typeRef, struct, union, enum, array, sizeUnion, Members, more, Bundle}
 use Rattle.meaning.proofs.Circle.{resolve-mem, settled-zero, settled-step, settled-of}
-use Rattle.fixed_meaning.specs.Extent.{Extent, sized, unsized, largest, bounded, roundUp, offsetOf, withField, withMember, alignmentOf}
-use Rattle.fixed_meaning.specs.Fixed.{measure, measureMember, measureAll, measured, extentOf, fieldOffsets, offsetsOf, offsetsIn, offsetsWithin, definitionExtent, definitionOffsets}
+use Rattle.fixed_meaning.specs.Extent.{Extent, sized, unsized, largest, bounded, roundUp, offsetOf, withField, alignmentOf}
+use Rattle.fixed_meaning.specs.Fixed.{measure, measureMember, measured, extentOf, offsetsOf, offsetsIn, offsetsWithin, definitionExtent, definitionOffsets}
 use Rattle.fixed_meaning.proofs.Within.{found-below, found-leads, extent-equation}
 use Rattle.fixed_laws.specs.Rule as rule
 use Rattle.fixed_laws.specs.Rule.{Laid, HasField, Offsets, ofStruct, ofReference, ofPrimitive, ofUnion, ofArray}
 use Rattle.fixed_laws.specs.Statements.{Reached, BadlyAligned, Varies, jaggedArray, TooLarge, aSize, anOffset, SomeReached, Unfixed, noSuchNumber, ten, eleven, twelve, HasLayout}
 use Rattle.fixed_laws.proofs.Own as own
-use Rattle.fixed_laws.proofs.Own.{AtMost, OffsetOver, here, later, SizeOver, Own, Found}
+use Rattle.fixed_laws.proofs.Own.{AtMost, OffsetOver, here, later, SizeOver, Own}
 use Rattle.fixed_laws.proofs.Rounding.{round-next}
 use Rattle.fixed_laws.proofs.Refusals.{fixed-parts}
 use Rattle.fixed_laws.proofs.Causes.{refusal-cause}

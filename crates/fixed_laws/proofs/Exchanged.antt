@@ -1,8 +1,8 @@
 -- An exchange of names changes no extent and no offset.
 use Prim.Native.Nat.{ℕ, zero, suc}
-use mathlib.Core.List.{List, [], _∷_}
+use mathlib.Core.List.{List}
 use mathlib.Core.Option.{Option, none, some, Option·map}
-use mathlib.Core.Path.{_≡_, refl, sym, ap, ap₂, _∙_}
+use mathlib.Core.Path.{_≡_, refl, ap, ap₂, _∙_}
 use Rattle.names.specs.Names.{Names, Exchange}
 use Rattle.meaning.specs.Lookup.{count, typeAt, findType}
 use Rattle.meaning.specs.Renumbering.{bundleNames, mapExpr, mapTy, mapMember, mapMembers, mapBundle}
@@ -10,7 +10,7 @@ use Rattle.meaning.specs.Tree.{Expr, literal, fieldRef, sizeof, alignof, binary
 use Rattle.meaning.proofs.Injective.{Injective, count-map, typeAt-map, findType-map}
 use Rattle.meaning.proofs.Equivariance.{left-by-exchange}
 use Rattle.fixed_meaning.specs.Extent.{Extent, sized, withField, withMember, varying, closed, arrayOf}
-use Rattle.fixed_meaning.specs.Fixed.{countOf, measure, measureMember, measureAll, measured, extentWithin, extentOf, fieldOffset, fieldOffsets, offsetsOf, offsetsIn, offsetsWithin, definitionExtent, definitionOffsets}
+use Rattle.fixed_meaning.specs.Fixed.{countOf, measure, measureMember, measureAll, measured, extentWithin, extentOf, fieldOffsets, offsetsIn, offsetsWithin, definitionExtent, definitionOffsets}
 
 module _ (f : ℕ → ℕ) where
   count-same : (e : Expr) → countOf (mapExpr f e) ≡ countOf e

@@ -1,7 +1,5 @@
 -- The number for which a part itself is refused, by the extents of its parts. What a reader must believe of it is in specs/Statements.antt.
-use Prim.Native.Nat.{ℕ, _+_, _*_, _%_, _≤_, _<_}
-use mathlib.Core.List.{List, [], _∷_}
-use mathlib.Core.Logic.{_⊎_}
+use Prim.Native.Nat.{ℕ, _*_, _≤_, _<_}
 use mathlib.Core.Option.{some}
 use mathlib.Core.Path.{_≡_}
 use Rattle.meaning.specs.Tree.{Expr, Attributes, Ty, struct, union, array, Member, Members, more, Bundle}

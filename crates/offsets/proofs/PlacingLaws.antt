@@ -4,9 +4,8 @@ use native.Mathlib.Omega.{arith}
 use native.Mathlib.Numerals.{add-one}
 use native.Mathlib.Nat.{le-of-suc-le-suc}
 use mathlib.Core.Bool.{Bool, true, false, cond, true≢false, false≢true}
-use mathlib.Core.Logic.{_⊎_, inl, inr, ⊎-elim}
 use mathlib.Core.List.{List, [], _∷_, _++_, map, List·Memᴰ, List·Memᴰ·head, append-assoc, append-nil}
-use mathlib.Core.Option.{some, none as nothing}
+use mathlib.Core.Option.{none as nothing}
 use mathlib.Core.Path.{_≡_, refl, sym, ap, subst, _∙_}
 use types.Run.{OneOf, miss}
 use denote.Enum.Declared.{tagOf}
@@ -19,13 +18,12 @@ use Rattle.meaning.specs.Kinds.{Form, OfType, Primitive, TypeRef, Struct, Union
 use Rattle.meaning.specs.Kinds as kinds
 use Rattle.meaning.specs.Lookup.{count, definitionOf, findType}
 use Rattle.meaning.specs.Lookup as lookup
-use Rattle.meaning.specs.Reader.{Read, ok, refused, little}
+use Rattle.meaning.specs.Reader.{little}
 use Rattle.meaning.proofs.Heads.{little-2}
-use Rattle.meaning.specs.ReadType.{Head, head, memberHead, readMembers, readGroup, readTy}
+use Rattle.meaning.specs.ReadType.{head, memberHead, readGroup, readTy}
 use Rattle.meaning.specs.Tree.{Ty, typeRef, struct, Attributes, Members, more, none, Bundle}
 use Rattle.meaning.specs.Calls as calls
-use Rattle.meaning.specs.Calls.{Outcome, result, refusal, onBundle, dueOf, answerOf, placesAfter, Call}
-use Rattle.meaning.proofs.Readings.{due-ok}
+use Rattle.meaning.specs.Calls.{Outcome, refusal, onBundle, dueOf, answerOf, placesAfter}
 use Rattle.bundle.specs.declared.TypeForm.{TypeForm}
 use Rattle.bundle.specs.declared.TypeForm.the-variants as code
 use Rattle.bundle.specs.declared.Count.the-variants.{Of as Counts}
@@ -40,9 +38,9 @@ use Rattle.scan.specs.Parts.{lead, typeParts, isLead}
 use Rattle.scan.specs.Scan.{recordName, partAt, Run}
 use Rattle.scan.proofs.ScanLaws.{leading}
 use Rattle.scan.proofs.Walks.{lead-one, definition-flat}
-use Rattle.bundle.proofs.LookupLaws.{placed-at, placed-type, found-type, found-none}
-use Rattle.bundle.proofs.TypeTrees.{primitive-tree, typeRef-tree, struct-reads, struct-tree, union-tree, sizeUnion-tree, group-reads, group-value, head-last}
-use Rattle.bundle.proofs.PartTrees.{member-type-reads, members-split}
+use Rattle.bundle.proofs.LookupLaws.{placed-at, placed-type, found-none}
+use Rattle.bundle.proofs.TypeTrees.{primitive-tree, typeRef-tree, struct-reads, struct-tree, union-tree, sizeUnion-tree, group-reads, group-value}
+use Rattle.bundle.proofs.PartTrees.{members-split}
 use Rattle.bundle.proofs.Heads.{count-where}
 use Rattle.bundle.proofs.Parts.{enum-at, array-at, members-none, members-length}
 use Rattle.fixed_meaning.specs.Extent as meaning
@@ -62,7 +60,7 @@ use Rattle.offsets.specs.declared.Fixed.{Fixed}
 use Rattle.offsets.specs.declared.Fixed.the-variants.{Sized, Refused}
 use Rattle.offsets.specs.declared.Fields.{Fields}
 use Rattle.offsets.specs.declared.Fields.the-variants.{Of, Nothing}
-use Rattle.offsets.specs.Placed.{answerMeant, Extents, HasEnd, Answered, Placing, FixedCall, Resolved, FieldsFrom, FieldsAre}
+use Rattle.offsets.specs.Placed.{answerMeant, HasEnd, Answered, Placing, FixedCall, Resolved, FieldsFrom, FieldsAre}
 
 -- a struct that has a size has fields with an end
 closed-end : (a : Attributes) (e : meaning.Extent) (n m : ℕ) → closed a e ≡ sized n m → HasEnd e

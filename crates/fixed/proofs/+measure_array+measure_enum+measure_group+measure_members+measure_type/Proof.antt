@@ -27,13 +27,14 @@ use Rattle.bundle.proofs.u16_at.Reads as u16-at-reads
 use Rattle.extents.proofs.array_of.Reads as array-of-reads
 use Rattle.extents.proofs.join.Reads as join-reads
 use Rattle.fixed.proofs.closed_at.Reads as closed-at-reads
-use Rattle.fixed.proofs.count_of.Reads as count-of-reads
+use Rattle.counts.proofs.count_of.Reads as count-of-reads
 use Rattle.fixed.proofs.measure_name.Reads as measure-name-reads
 use Rattle.fixed.proofs.primitive.Reads as primitive-reads
 use Rattle.fixed.proofs.+measure_array+measure_enum+measure_group+measure_members+measure_type.{statement}
 use Rattle.fixed.proofs.+measure_array+measure_enum+measure_group+measure_members+measure_type.Tie.{close}
 use Prim.Native.Nat.{_+_, _*_}
-use mathlib.Core.Path.{refl, sym, _∙_}
+use mathlib.Core.Path.{refl, sym, ap, _∙_}
+use Rattle.bundle.specs.declared.Form.the-variants.{OfType}
 use Rattle.bundle.proofs.Forms.{not-type, primitive-meant, typeRef-meant, struct-meant, union-meant, enum-meant, array-meant, sizeUnion-meant}
 use Rattle.bundle.proofs.PartTrees.{head-no, member-type-reads}
 use Rattle.bundle.proofs.TypeTrees.{type-deep, type-there, no-other, struct-reads, union-reads, sizeUnion-reads, enum-reads, array-reads}
@@ -328,10 +329,10 @@ measure-type-enum-told-2 : Ask-measure-type measure-type-lts.Need-enum-told-2
 measure-type-enum-told-2 t c = search needs
 
 measure-type-measure-name-requires : Ask-measure-type measure-type-lts.Need-measure-name-requires
-measure-type-measure-name-requires t c κs = (typeRef-there (type-opened _ _ _ _ (c .before .before .before .before .before .before .before .before .before .before .pre .1 .2) (c .before .before .before .before .before .form-of .ensures)) (c .before .before .before .before .before .before .before .before .before .before .pre .1 .2) (typeRef-meant (cc)), c .before .before .before .before .before .before .before .before .before .before .pre .1 .0, c .before .before .before .before .before .before .before .before .before .before .pre .1 .1)
+measure-type-measure-name-requires t c κs = (typeRef-there (type-opened _ _ _ _ (c .before .before .before .before .before .before .before .before .before .before .pre .1 .2) (c .before .before .before .before .before .form-of .ensures)) (c .before .before .before .before .before .before .before .before .before .before .pre .1 .2) (typeRef-meant (c .before .before .before .form .given .1 ∙ ap OfType (c .enum-told2 .given .1))), c .before .before .before .before .before .before .before .before .before .before .pre .1 .0, c .before .before .before .before .before .before .before .before .before .before .pre .1 .1)
 
 measure-type-add-t17 : Ask-measure-type measure-type-lts.Need-add-t17
-measure-type-add-t17 t c = omega (arith, typeRef-there (type-opened _ _ _ _ (c .before .before .before .before .before .before .before .before .before .before .before .pre .1 .2) (c .before .before .before .before .before .before .form-of .ensures)) (c .before .before .before .before .before .before .before .before .before .before .before .pre .1 .2) (typeRef-meant (cc)))
+measure-type-add-t17 t c = omega (arith, typeRef-there (type-opened _ _ _ _ (c .before .before .before .before .before .before .before .before .before .before .before .pre .1 .2) (c .before .before .before .before .before .before .form-of .ensures)) (c .before .before .before .before .before .before .before .before .before .before .before .pre .1 .2) (typeRef-meant (c .before .before .before .before .form .given .1 ∙ ap OfType (c .before .enum-told2 .given .1))))
 
 measure-type-enum-told-3 : Ask-measure-type measure-type-lts.Need-enum-told-3
 measure-type-enum-told-3 t c = search needs
@@ -340,7 +341,7 @@ measure-type-sub-measure-group : Ask-measure-type measure-type-lts.Need-sub-meas
 measure-type-sub-measure-group t c = omega (arith, type-deep _ _ _ (c .before .before .before .before .before .before .before .before .before .before .pre .1 .2))
 
 measure-type-measure-group-requires : Ask-measure-type measure-type-lts.Need-measure-group-requires
-measure-type-measure-group-requires t c κs = (omega (arith, type-deep _ _ _ (c .before .before .before .before .before .before .before .before .before .before .pre .1 .2), c .before .before .before .before .before .before .before .before .before .before .pre .0), (c .before .before .before .before .before .before .before .before .before .before .pre .1 .0, c .before .before .before .before .before .before .before .before .before .before .pre .1 .1, struct-reads (type-opened _ _ _ _ (c .before .before .before .before .before .before .before .before .before .before .pre .1 .2) (c .before .before .before .before .before .form-of .ensures)) (c .before .before .before .before .before .before .before .before .before .before .pre .1 .2) (struct-meant (cc))))
+measure-type-measure-group-requires t c κs = (omega (arith, type-deep _ _ _ (c .before .before .before .before .before .before .before .before .before .before .pre .1 .2), c .before .before .before .before .before .before .before .before .before .before .pre .0), (c .before .before .before .before .before .before .before .before .before .before .pre .1 .0, c .before .before .before .before .before .before .before .before .before .before .pre .1 .1, struct-reads (type-opened _ _ _ _ (c .before .before .before .before .before .before .before .before .before .before .pre .1 .2) (c .before .before .before .before .before .form-of .ensures)) (c .before .before .before .before .before .before .before .before .before .before .pre .1 .2) (struct-meant (c .before .before .before .form .given .1 ∙ ap OfType (c .enum-told3 .given .1)))))
 
 measure-type-enum-told-4 : Ask-measure-type measure-type-lts.Need-enum-told-4
 measure-type-enum-told-4 t c = search needs
@@ -349,7 +350,7 @@ measure-type-sub-measure-group-2 : Ask-measure-type measure-type-lts.Need-sub-me
 measure-type-sub-measure-group-2 t c = omega (arith, type-deep _ _ _ (c .before .before .before .before .before .before .before .before .before .before .pre .1 .2))
 
 measure-type-measure-group-requires-2 : Ask-measure-type measure-type-lts.Need-measure-group-requires-2
-measure-type-measure-group-requires-2 t c κs = (omega (arith, type-deep _ _ _ (c .before .before .before .before .before .before .before .before .before .before .pre .1 .2), c .before .before .before .before .before .before .before .before .before .before .pre .0), (c .before .before .before .before .before .before .before .before .before .before .pre .1 .0, c .before .before .before .before .before .before .before .before .before .before .pre .1 .1, union-reads (type-opened _ _ _ _ (c .before .before .before .before .before .before .before .before .before .before .pre .1 .2) (c .before .before .before .before .before .form-of .ensures)) (c .before .before .before .before .before .before .before .before .before .before .pre .1 .2) (union-meant (cc))))
+measure-type-measure-group-requires-2 t c κs = (omega (arith, type-deep _ _ _ (c .before .before .before .before .before .before .before .before .before .before .pre .1 .2), c .before .before .before .before .before .before .before .before .before .before .pre .0), (c .before .before .before .before .before .before .before .before .before .before .pre .1 .0, c .before .before .before .before .before .before .before .before .before .before .pre .1 .1, union-reads (type-opened _ _ _ _ (c .before .before .before .before .before .before .before .before .before .before .pre .1 .2) (c .before .before .before .before .before .form-of .ensures)) (c .before .before .before .before .before .before .before .before .before .before .pre .1 .2) (union-meant (c .before .before .before .form .given .1 ∙ ap OfType (c .enum-told4 .given .1)))))
 
 measure-type-enum-told-5 : Ask-measure-type measure-type-lts.Need-enum-told-5
 measure-type-enum-told-5 t c = search needs
@@ -358,7 +359,7 @@ measure-type-sub-measure-enum : Ask-measure-type measure-type-lts.Need-sub-measu
 measure-type-sub-measure-enum t c = omega (arith, type-deep _ _ _ (c .before .before .before .before .before .before .before .before .before .before .pre .1 .2))
 
 measure-type-measure-enum-requires : Ask-measure-type measure-type-lts.Need-measure-enum-requires
-measure-type-measure-enum-requires t c κs = (omega (arith, type-deep _ _ _ (c .before .before .before .before .before .before .before .before .before .before .pre .1 .2), c .before .before .before .before .before .before .before .before .before .before .pre .0), (c .before .before .before .before .before .before .before .before .before .before .pre .1 .0, c .before .before .before .before .before .before .before .before .before .before .pre .1 .1, enum-reads (type-opened _ _ _ _ (c .before .before .before .before .before .before .before .before .before .before .pre .1 .2) (c .before .before .before .before .before .form-of .ensures)) (c .before .before .before .before .before .before .before .before .before .before .pre .1 .2) (enum-meant (cc))))
+measure-type-measure-enum-requires t c κs = (omega (arith, type-deep _ _ _ (c .before .before .before .before .before .before .before .before .before .before .pre .1 .2), c .before .before .before .before .before .before .before .before .before .before .pre .0), (c .before .before .before .before .before .before .before .before .before .before .pre .1 .0, c .before .before .before .before .before .before .before .before .before .before .pre .1 .1, enum-reads (type-opened _ _ _ _ (c .before .before .before .before .before .before .before .before .before .before .pre .1 .2) (c .before .before .before .before .before .form-of .ensures)) (c .before .before .before .before .before .before .before .before .before .before .pre .1 .2) (enum-meant (c .before .before .before .form .given .1 ∙ ap OfType (c .enum-told5 .given .1)))))
 
 measure-type-enum-told-6 : Ask-measure-type measure-type-lts.Need-enum-told-6
 measure-type-enum-told-6 t c = search needs
@@ -367,7 +368,7 @@ measure-type-sub-measure-array : Ask-measure-type measure-type-lts.Need-sub-meas
 measure-type-sub-measure-array t c = omega (arith, type-deep _ _ _ (c .before .before .before .before .before .before .before .before .before .before .pre .1 .2))
 
 measure-type-measure-array-requires : Ask-measure-type measure-type-lts.Need-measure-array-requires
-measure-type-measure-array-requires t c κs = (omega (arith, type-deep _ _ _ (c .before .before .before .before .before .before .before .before .before .before .pre .1 .2), c .before .before .before .before .before .before .before .before .before .before .pre .0), (c .before .before .before .before .before .before .before .before .before .before .pre .1 .0, c .before .before .before .before .before .before .before .before .before .before .pre .1 .1, array-reads (type-opened _ _ _ _ (c .before .before .before .before .before .before .before .before .before .before .pre .1 .2) (c .before .before .before .before .before .form-of .ensures)) (c .before .before .before .before .before .before .before .before .before .before .pre .1 .2) (array-meant (cc))))
+measure-type-measure-array-requires t c κs = (omega (arith, type-deep _ _ _ (c .before .before .before .before .before .before .before .before .before .before .pre .1 .2), c .before .before .before .before .before .before .before .before .before .before .pre .0), (c .before .before .before .before .before .before .before .before .before .before .pre .1 .0, c .before .before .before .before .before .before .before .before .before .before .pre .1 .1, array-reads (type-opened _ _ _ _ (c .before .before .before .before .before .before .before .before .before .before .pre .1 .2) (c .before .before .before .before .before .form-of .ensures)) (c .before .before .before .before .before .before .before .before .before .before .pre .1 .2) (array-meant (c .before .before .before .form .given .1 ∙ ap OfType (c .enum-told6 .given .1)))))
 
 measure-type-enum-told-7 : Ask-measure-type measure-type-lts.Need-enum-told-7
 measure-type-enum-told-7 t c = search needs
@@ -376,28 +377,28 @@ measure-type-sub-measure-group-3 : Ask-measure-type measure-type-lts.Need-sub-me
 measure-type-sub-measure-group-3 t c = omega (arith, type-deep _ _ _ (c .before .before .before .before .before .before .before .before .before .before .pre .1 .2))
 
 measure-type-measure-group-requires-3 : Ask-measure-type measure-type-lts.Need-measure-group-requires-3
-measure-type-measure-group-requires-3 t c κs = (omega (arith, type-deep _ _ _ (c .before .before .before .before .before .before .before .before .before .before .pre .1 .2), c .before .before .before .before .before .before .before .before .before .before .pre .0), (c .before .before .before .before .before .before .before .before .before .before .pre .1 .0, c .before .before .before .before .before .before .before .before .before .before .pre .1 .1, sizeUnion-reads (type-opened _ _ _ _ (c .before .before .before .before .before .before .before .before .before .before .pre .1 .2) (c .before .before .before .before .before .form-of .ensures)) (c .before .before .before .before .before .before .before .before .before .before .pre .1 .2) (sizeUnion-meant (cc))))
+measure-type-measure-group-requires-3 t c κs = (omega (arith, type-deep _ _ _ (c .before .before .before .before .before .before .before .before .before .before .pre .1 .2), c .before .before .before .before .before .before .before .before .before .before .pre .0), (c .before .before .before .before .before .before .before .before .before .before .pre .1 .0, c .before .before .before .before .before .before .before .before .before .before .pre .1 .1, sizeUnion-reads (type-opened _ _ _ _ (c .before .before .before .before .before .before .before .before .before .before .pre .1 .2) (c .before .before .before .before .before .form-of .ensures)) (c .before .before .before .before .before .before .before .before .before .before .pre .1 .2) (sizeUnion-meant (c .before .before .before .form .given .1 ∙ ap OfType (c .enum-told7 .given .1)))))
 
 measure-type-returns-2 : Ask-measure-type measure-type-lts.Need-returns-2
-measure-type-returns-2 t c = record { is = c .primitive .ensures .0 ∙ primitive-is _ (type-opened _ _ _ _ (c .before .before .before .before .before .before .before .before .before .before .before .pre .1 .2) (c .before .before .before .before .before .before .form-of .ensures)) (c .before .before .before .before .before .before .before .before .before .before .before .pre .1 .2) _ (primitive-meant (cc)); fits = c .primitive .ensures .1; ended = primitive-ended _ (type-opened _ _ _ _ (c .before .before .before .before .before .before .before .before .before .before .before .pre .1 .2) (c .before .before .before .before .before .before .form-of .ensures)) (c .before .before .before .before .before .before .before .before .before .before .before .pre .1 .2) (primitive-meant (cc)) }
+measure-type-returns-2 t c = record { is = c .primitive .ensures .0 ∙ primitive-is _ (type-opened _ _ _ _ (c .before .before .before .before .before .before .before .before .before .before .before .pre .1 .2) (c .before .before .before .before .before .before .form-of .ensures)) (c .before .before .before .before .before .before .before .before .before .before .before .pre .1 .2) _ (primitive-meant (c .before .before .before .before .form .given .1 ∙ ap OfType (c .before .enum-told .given .1))); fits = c .primitive .ensures .1; ended = primitive-ended _ (type-opened _ _ _ _ (c .before .before .before .before .before .before .before .before .before .before .before .pre .1 .2) (c .before .before .before .before .before .before .form-of .ensures)) (c .before .before .before .before .before .before .before .before .before .before .before .pre .1 .2) (primitive-meant (c .before .before .before .before .form .given .1 ∙ ap OfType (c .before .enum-told .given .1))) }
 
 measure-type-returns-3 : Ask-measure-type measure-type-lts.Need-returns-3
-measure-type-returns-3 t c = record { is = c .measure-name .ensures .0 ∙ typeRef-is _ (type-opened _ _ _ _ (c .before .before .before .before .before .before .before .before .before .before .before .pre .1 .2) (c .before .before .before .before .before .before .form-of .ensures)) (c .before .before .before .before .before .before .before .before .before .before .before .pre .1 .2) _ (typeRef-meant (cc)); fits = c .measure-name .ensures .1; ended = typeRef-ended _ (type-opened _ _ _ _ (c .before .before .before .before .before .before .before .before .before .before .before .pre .1 .2) (c .before .before .before .before .before .before .form-of .ensures)) (c .before .before .before .before .before .before .before .before .before .before .before .pre .1 .2) (typeRef-meant (cc)) }
+measure-type-returns-3 t c = record { is = c .measure-name .ensures .0 ∙ typeRef-is _ (type-opened _ _ _ _ (c .before .before .before .before .before .before .before .before .before .before .before .pre .1 .2) (c .before .before .before .before .before .before .form-of .ensures)) (c .before .before .before .before .before .before .before .before .before .before .before .pre .1 .2) _ (typeRef-meant (c .before .before .before .before .form .given .1 ∙ ap OfType (c .before .enum-told2 .given .1))); fits = c .measure-name .ensures .1; ended = typeRef-ended _ (type-opened _ _ _ _ (c .before .before .before .before .before .before .before .before .before .before .before .pre .1 .2) (c .before .before .before .before .before .before .form-of .ensures)) (c .before .before .before .before .before .before .before .before .before .before .before .pre .1 .2) (typeRef-meant (c .before .before .before .before .form .given .1 ∙ ap OfType (c .before .enum-told2 .given .1))) }
 
 measure-type-returns-4 : Ask-measure-type measure-type-lts.Need-returns-4
-measure-type-returns-4 t c = is-same (struct-is _ (type-opened _ _ _ _ (c .before .before .before .before .before .before .before .before .before .before .before .pre .1 .2) (c .before .before .before .before .before .before .form-of .ensures)) (c .before .before .before .before .before .before .before .before .before .before .before .pre .1 .2) _ (struct-meant (cc))) (sym (struct-ends (type-opened _ _ _ _ (c .before .before .before .before .before .before .before .before .before .before .before .pre .1 .2) (c .before .before .before .before .before .before .form-of .ensures)) (struct-meant (cc)))) (c .measure-group .ensures)
+measure-type-returns-4 t c = is-same (struct-is _ (type-opened _ _ _ _ (c .before .before .before .before .before .before .before .before .before .before .before .pre .1 .2) (c .before .before .before .before .before .before .form-of .ensures)) (c .before .before .before .before .before .before .before .before .before .before .before .pre .1 .2) _ (struct-meant (c .before .before .before .before .form .given .1 ∙ ap OfType (c .before .enum-told3 .given .1)))) (sym (struct-ends (type-opened _ _ _ _ (c .before .before .before .before .before .before .before .before .before .before .before .pre .1 .2) (c .before .before .before .before .before .before .form-of .ensures)) (struct-meant (c .before .before .before .before .form .given .1 ∙ ap OfType (c .before .enum-told3 .given .1))))) (c .measure-group .ensures)
 
 measure-type-returns-5 : Ask-measure-type measure-type-lts.Need-returns-5
-measure-type-returns-5 t c = is-same (union-is _ (type-opened _ _ _ _ (c .before .before .before .before .before .before .before .before .before .before .before .pre .1 .2) (c .before .before .before .before .before .before .form-of .ensures)) (c .before .before .before .before .before .before .before .before .before .before .before .pre .1 .2) _ (union-meant (cc))) (sym (union-ends (type-opened _ _ _ _ (c .before .before .before .before .before .before .before .before .before .before .before .pre .1 .2) (c .before .before .before .before .before .before .form-of .ensures)) (union-meant (cc)))) (c .measure-group2 .ensures)
+measure-type-returns-5 t c = is-same (union-is _ (type-opened _ _ _ _ (c .before .before .before .before .before .before .before .before .before .before .before .pre .1 .2) (c .before .before .before .before .before .before .form-of .ensures)) (c .before .before .before .before .before .before .before .before .before .before .before .pre .1 .2) _ (union-meant (c .before .before .before .before .form .given .1 ∙ ap OfType (c .before .enum-told4 .given .1)))) (sym (union-ends (type-opened _ _ _ _ (c .before .before .before .before .before .before .before .before .before .before .before .pre .1 .2) (c .before .before .before .before .before .before .form-of .ensures)) (union-meant (c .before .before .before .before .form .given .1 ∙ ap OfType (c .before .enum-told4 .given .1))))) (c .measure-group2 .ensures)
 
 measure-type-returns-6 : Ask-measure-type measure-type-lts.Need-returns-6
-measure-type-returns-6 t c = is-same (enum-is _ (type-opened _ _ _ _ (c .before .before .before .before .before .before .before .before .before .before .before .pre .1 .2) (c .before .before .before .before .before .before .form-of .ensures)) (c .before .before .before .before .before .before .before .before .before .before .before .pre .1 .2) _ (enum-meant (cc))) (sym (enum-ends (type-opened _ _ _ _ (c .before .before .before .before .before .before .before .before .before .before .before .pre .1 .2) (c .before .before .before .before .before .before .form-of .ensures)) (enum-meant (cc)))) (c .measure-enum .ensures)
+measure-type-returns-6 t c = is-same (enum-is _ (type-opened _ _ _ _ (c .before .before .before .before .before .before .before .before .before .before .before .pre .1 .2) (c .before .before .before .before .before .before .form-of .ensures)) (c .before .before .before .before .before .before .before .before .before .before .before .pre .1 .2) _ (enum-meant (c .before .before .before .before .form .given .1 ∙ ap OfType (c .before .enum-told5 .given .1)))) (sym (enum-ends (type-opened _ _ _ _ (c .before .before .before .before .before .before .before .before .before .before .before .pre .1 .2) (c .before .before .before .before .before .before .form-of .ensures)) (enum-meant (c .before .before .before .before .form .given .1 ∙ ap OfType (c .before .enum-told5 .given .1))))) (c .measure-enum .ensures)
 
 measure-type-returns-7 : Ask-measure-type measure-type-lts.Need-returns-7
-measure-type-returns-7 t c = is-same (array-is _ (type-opened _ _ _ _ (c .before .before .before .before .before .before .before .before .before .before .before .pre .1 .2) (c .before .before .before .before .before .before .form-of .ensures)) (c .before .before .before .before .before .before .before .before .before .before .before .pre .1 .2) _ (array-meant (cc))) (sym (array-ends (type-opened _ _ _ _ (c .before .before .before .before .before .before .before .before .before .before .before .pre .1 .2) (c .before .before .before .before .before .before .form-of .ensures)) (array-meant (cc)))) (c .measure-array .ensures)
+measure-type-returns-7 t c = is-same (array-is _ (type-opened _ _ _ _ (c .before .before .before .before .before .before .before .before .before .before .before .pre .1 .2) (c .before .before .before .before .before .before .form-of .ensures)) (c .before .before .before .before .before .before .before .before .before .before .before .pre .1 .2) _ (array-meant (c .before .before .before .before .form .given .1 ∙ ap OfType (c .before .enum-told6 .given .1)))) (sym (array-ends (type-opened _ _ _ _ (c .before .before .before .before .before .before .before .before .before .before .before .pre .1 .2) (c .before .before .before .before .before .before .form-of .ensures)) (array-meant (c .before .before .before .before .form .given .1 ∙ ap OfType (c .before .enum-told6 .given .1))))) (c .measure-array .ensures)
 
 measure-type-returns-8 : Ask-measure-type measure-type-lts.Need-returns-8
-measure-type-returns-8 t c = is-same (sizeUnion-is _ (type-opened _ _ _ _ (c .before .before .before .before .before .before .before .before .before .before .before .pre .1 .2) (c .before .before .before .before .before .before .form-of .ensures)) (c .before .before .before .before .before .before .before .before .before .before .before .pre .1 .2) _ (sizeUnion-meant (cc))) (sym (sizeUnion-ends (type-opened _ _ _ _ (c .before .before .before .before .before .before .before .before .before .before .before .pre .1 .2) (c .before .before .before .before .before .before .form-of .ensures)) (sizeUnion-meant (cc)))) (c .measure-group3 .ensures)
+measure-type-returns-8 t c = is-same (sizeUnion-is _ (type-opened _ _ _ _ (c .before .before .before .before .before .before .before .before .before .before .before .pre .1 .2) (c .before .before .before .before .before .before .form-of .ensures)) (c .before .before .before .before .before .before .before .before .before .before .before .pre .1 .2) _ (sizeUnion-meant (c .before .before .before .before .form .given .1 ∙ ap OfType (c .before .enum-told7 .given .1)))) (sym (sizeUnion-ends (type-opened _ _ _ _ (c .before .before .before .before .before .before .before .before .before .before .before .pre .1 .2) (c .before .before .before .before .before .before .form-of .ensures)) (sizeUnion-meant (c .before .before .before .before .form .given .1 ∙ ap OfType (c .before .enum-told7 .given .1))))) (c .measure-group3 .ensures)
 
 pub +measure-array+measure-enum+measure-group+measure-members+measure-type-spec :
     {M : Type 1} → statement M

@@ -17,7 +17,7 @@ use Rattle.scan.proofs.next_stop.Reads as next-stop-reads
 use Rattle.fixed_definitions.proofs.+measure_definition.{statement}
 use Rattle.fixed_definitions.proofs.+measure_definition.Tie.{close}
 use Prim.Native.Nat.{_+_, _-_}
-use mathlib.Core.Path.{refl, _∙_}
+use mathlib.Core.Path.{_∙_}
 use Rattle.bundle.proofs.LookupLaws.{placed-at, place-there, place-ends}
 use Rattle.scan.proofs.Walks.{definition-records}
 use Rattle.fixed_definitions.proofs.KeepingLaws.{Measuring, place-below, some-left, keeps-sound, measuring-start, measuring-keeps, measured-is, measuring-end, name-there, behind, few, measuring-inside, measuring-past, measuring-next, measuring-known}
