@@ -16,7 +16,6 @@ use Rattle.fixed_meaning.specs.Extent.{sized}
 use Rattle.extents.specs.declared.Extent.the-variants.{Sized, Unsized}
 use Rattle.extents.specs.Meant.{extentMeant, Part}
 use Rattle.fixed.specs.Kept.{keptAs}
-
 use Rattle.counts.proofs.CountLaws.{every-at}
 
 -- a primitive

@@ -83,6 +83,7 @@ module _ (b : Bundle) (c : circles b ≡ false) where
 
   mutual
     unfolding bounded withField withMember measured
+
     pub type-agrees : {t : Ty} {n a : ℕ} → Laid b t n a → Agrees (measure t E) n a
     type-agrees (aPrimitive e f) = (sym e, sym (f ∙ e))
     type-agrees (aStruct {a} {ms} {os} {end} {most} {size} {alignment} f e next) =

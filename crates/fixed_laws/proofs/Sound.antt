@@ -135,6 +135,7 @@ rounded-next {n} {a} {size} {c} p q = subst (λ x. IsNext n x size) q (subst (Is
 module _ (b : Bundle) (known : ℕ → Extent) (sound : (n size a : ℕ) → known n ≡ sized size a → Laid b (typeRef n) size a × (size ≤ largest)) where
   mutual
     unfolding bounded withField withMember fieldOffsets
+
     pub type-laid : (t : Ty) (n a : ℕ) → measure t known ≡ sized n a → Laid b t n a × (n ≤ largest)
     type-laid (primitive k) n a e = let s = same-size e in (aPrimitive (sym (s .0)) (sym (s .1) ∙ s .0), subst (λ x. x ≤ largest) (s .0) (primitive-small k))
     type-laid (typeRef m) n a e = sound m n a e

@@ -1,7 +1,8 @@
-// Replays stored cases: runs the report or the renumbering on each bundle and compares with the stored answer.
+// Replays stored cases: runs the report, the renumbering or the fixed size on each bundle and compares with the stored answer.
 use bundle::Answer;
 use libc::STDIN_FILENO;
 use libc::STDOUT_FILENO;
+use offsets::Fixed;
 ghost use Prim.Native.Nat.{_<_};
 
 // Reads n bytes into the first places.
@@ -29,6 +30,15 @@ fn same_first(a: &[u8], b: &[u8], n: usize) -> bool {
     true
 }
 
+// Whether the first m bytes are 7E and this refusal.
+fn is_refusal(number: u8, due: &[u8], m: usize) -> bool {
+    let refusal = [0x7Eu8, number];
+    if m != 2 {
+        return false;
+    }
+    same_first(&refusal, due, m)
+}
+
 // Whether the answer is the one in the first m bytes: the result in the first places of `out`, or 7E and the refusal.
 fn is_due(answer: Answer, out: &[u8], due: &[u8], m: usize) -> bool {
     match answer {
@@ -38,13 +48,7 @@ fn is_due(answer: Answer, out: &[u8], due: &[u8], m: usize) -> bool {
             }
             same_first(out, due, m)
         }
-        Answer::Refused(number) => {
-            let refusal = [0x7Eu8, number];
-            if m != 2 {
-                return false;
-            }
-            same_first(&refusal, due, m)
-        }
+        Answer::Refused(number) => is_refusal(number, due, m),
     }
 }
 
@@ -64,6 +68,82 @@ fn renumbered(space: &[u8], n: usize, due: &[u8], m: usize, out: &mut [u8]) -> b
     }
     let answer = renumber::renumber(&space[..n], out);
     is_due(answer, out, due, m)
+}
+
+// Whether the number is that of the `w` bytes at `at`, low byte first.
+fn number_is(due: &[u8], at: usize, w: usize, number: u64) -> bool {
+    let mut rest = number;
+    let mut i = 0;
+    while i < w {
+        if due.len() <= i {
+            return false;
+        }
+        if due.len() - i <= at {
+            return false;
+        }
+        if due[at + i] != (rest % 256) as u8 {
+            return false;
+        }
+        rest = rest / 256;
+        i += 1;
+    }
+    true
+}
+
+fn long(number: u32) -> u64 {
+    number as u64
+}
+
+// Whether the first `count` offsets are those behind the first 16 bytes.
+fn offsets_are(list: &[u32], count: usize, due: &[u8]) -> bool {
+    if list.len() < count {
+        return false;
+    }
+    if 8192 < count {
+        return false;
+    }
+    let mut i = 0;
+    while i < count {
+        if !number_is(due, 16 + 4 * i, 4, long(list[i])) {
+            return false;
+        }
+        i += 1;
+    }
+    true
+}
+
+// Whether size, alignment and offsets are those in the first m bytes.
+fn layout_is(size: u64, alignment: u64, list: &[u32], count: usize, due: &[u8], m: usize) -> bool {
+    if 8192 < count {
+        return false;
+    }
+    if m != 16 + 4 * count {
+        return false;
+    }
+    if !number_is(due, 0, 8, size) {
+        return false;
+    }
+    if !number_is(due, 8, 8, alignment) {
+        return false;
+    }
+    offsets_are(list, count, due)
+}
+
+// The same for the size, alignment and offsets of a definition: its number in two bytes, then the bundle.
+fn measured(space: &[u8], n: usize, due: &[u8], m: usize) -> bool {
+    if space.len() < n {
+        return false;
+    }
+    if n < 2 {
+        return false;
+    }
+    let definition = wide(space[0]) + 256 * wide(space[1]);
+    let mut list = [0u32; 8192];
+    let answer = offsets::fixed_size(&space[2..n], definition, &mut list);
+    match answer {
+        Fixed::Sized(size, alignment, count) => layout_is(size, alignment, &list, count, due, m),
+        Fixed::Refused(number) => is_refusal(number, due, m),
+    }
 }
 
 fn wide(byte: u8) -> usize
@@ -87,7 +167,7 @@ fn outcome_of(same: bool) -> Outcome {
     }
 }
 
-// One case: 0 for a report or 1 for a renumbering, the lengths of the bundle and of the answer, two bytes each, and then both.
+// One case: 0 for a report, 1 for a renumbering or 2 for a fixed size, the lengths of the bundle and of the answer, two bytes each, and then both.
 fn run_case(space: &mut [u8], due: &mut [u8], out: &mut [u8]) -> Outcome {
     let mut head = [0u8; 5];
     if io::read_full(STDIN_FILENO, &mut head) < 5 {
@@ -100,7 +180,10 @@ fn run_case(space: &mut [u8], due: &mut [u8], out: &mut [u8]) -> Outcome {
     if head[0] == 0 {
         return outcome_of(reported(space, n, due, m, out));
     }
-    outcome_of(renumbered(space, n, due, m, out))
+    if head[0] == 1 {
+        return outcome_of(renumbered(space, n, due, m, out));
+    }
+    outcome_of(measured(space, n, due, m))
 }
 
 // How many cases gave the answer due, and how many another one.
