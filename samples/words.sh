@@ -7,7 +7,7 @@ cd "$(dirname "$0")/.."
 program=${1:-target/bin/layout}
 work=$(mktemp -d)
 trap 'rm -rf "$work"' EXIT
-echo 'layout: wrong arguments; take none, renumber, chain FROM TO (0 to 65535) or help' > "$work/wrong"
+echo 'layout: wrong arguments; take none, renumber, chain FROM TO, size NUMBER (each 0 to 65535) or help' > "$work/wrong"
 echo 'layout: standard input cannot be read' > "$work/unread"
 echo 'layout: standard output cannot be written' > "$work/unwritten"
 : > "$work/nothing"

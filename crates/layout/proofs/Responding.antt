@@ -2,11 +2,14 @@
 use Prim.Native.Nat.{ℕ, _≤_}
 use native.Mathlib.Omega.{arith}
 use mathlib.Core.Bool.{Bool, true, false, cond}
-use mathlib.Core.List.{List, [], _∷_}
+use mathlib.Core.List.{List, [], _∷_, _++_}
 use mathlib.Core.Option.{Option, none, some}
 use mathlib.Core.Path.{_≡_, refl, sym, ap, subst, _∙_}
-use lib.ListN.{length, take, set, length-take}
+use lib.ListN.{length, take, set, length-append, length-take}
+use lib.Seq.{length-take-le, take-append-le}
 use Rattle.decimal.specs.Decimal.{lines, Writes}
+use Rattle.decimal.proofs.DecimalLaws.{lines-append}
+use Rattle.decimal.proofs.Writing.{writes-then}
 use Rattle.meaning.specs.Tree.{Bundle}
 use Rattle.meaning.specs.Encoding.{Bytes}
 use Rattle.meaning.specs.Reader.{Read, ok, refused}
@@ -21,22 +24,26 @@ use Rattle.meaning.proofs.ReadWithin.{bundle-within}
 use Rattle.bundle.specs.declared.Answer as code
 use Rattle.bundle.specs.declared.Answer.the-variants.{Accepted, Refused}
 use Rattle.bundle.specs.Opened.{answerMeant}
-use Rattle.layout.specs.Response.{refusalBytes, written, responseTo, linesTo, Holds}
+use Rattle.fixed_meaning.specs.Fixed.{sizing, placing}
+use Rattle.offsets.specs.declared.Fixed.{Fixed}
+use Rattle.offsets.specs.declared.Fixed.the-variants as fixed
+use Rattle.offsets.specs.declared.Fixed.the-variants.{Sized}
+use Rattle.offsets.specs.Placed.{answerMeant as fixedMeant, Extents, FixedCall}
+use Rattle.layout.specs.Response.{refusalBytes, written, responseTo, linesTo, numbersOf, linesOf, sizeTo, Holds}
 
 -- what an acceptance leaves in the places
-module _ (o : Outcome) {before after : List ℕ} {a : code.Answer} {n : ℕ} (c : Call o before after (answerMeant a)) (e : a ≡ Accepted n) where
+module _ (o : Outcome) {before after : List ℕ} {a : Answer} {n : ℕ} (c : Call o before after a) (e : a ≡ accepted n) where
   filled : Fills o n before after
-  unfolding answerMeant
-  filled = call-accepted o n before after (subst (λ a. Call o before after (answerMeant a)) e c)
+  filled = call-accepted o n before after (subst (λ a. Call o before after a) e c)
 
   pub accepted-within : n ≤ length after
   accepted-within = omega (arith, length-take n after, ap length (filled .first), filled .size)
 
   pub accepts : Holds (responseTo o (length before)) after n
-  unfolding responseTo answerMeant
+  unfolding responseTo
   accepts =
       let f = filled in
-      let answered : answerOf o (length before) ≡ accepted n = sym (c .answer) ∙ ap answerMeant e in
+      let answered : answerOf o (length before) ≡ accepted n = sym (c .answer) ∙ e in
       record { within = accepted-within; first = f .first ∙ sym (ap (λ a. written a o) answered ∙ ap (written (accepted n)) (f .outcome)) }
 
   pub lists : {out out′ : List ℕ} {r : ℕ} → Writes (lines (take n after)) out 0 out′ r → Holds (linesTo o) out′ r
@@ -49,10 +56,54 @@ holds-refusal [] k h = absurd (omega arith)
 holds-refusal (x ∷ []) k h = absurd (omega arith)
 holds-refusal (x ∷ y ∷ out) k h = record { within = omega arith; first = refl }
 
-pub refuses : (o : Outcome) {before after out : List ℕ} {a : code.Answer} {k r : ℕ} → Call o before after (answerMeant a) → a ≡ Refused k → Holds (refusalBytes k) out r
+pub refuses : (o : Outcome) {before after out : List ℕ} {a : Answer} {k r : ℕ} → Call o before after a → a ≡ refusedWith k → Holds (refusalBytes k) out r
     → Holds (responseTo o (length before)) out r
-unfolding responseTo answerMeant
-refuses o {out = out} {r = r} c e w = subst (λ a. Holds (written a o) out r) (sym (ap answerMeant e) ∙ c .answer) w
+unfolding responseTo
+refuses o {out = out} {r = r} c e w = subst (λ a. Holds (written a o) out r) (sym e ∙ c .answer) w
+
+-- what was put into the first places of a part stands there in the whole
+pub in-part : (o : Outcome) (room : ℕ) (out : List ℕ) {part : List ℕ} (rest : List ℕ) {r : ℕ} → room ≤ length out
+    → Holds (responseTo o (length (take room out))) part r → Holds (responseTo o room) (part ++ rest) r
+in-part o room out {part} rest {r} fits h =
+    record {
+      within = omega (arith, length-append part rest, h .within);
+      first = take-append-le r part rest (h .within) ∙ h .first ∙ ap (responseTo o) (length-take-le room out fits);
+    }
+
+-- the answers of the code as those of a call
+module _ {a : code.Answer} where
+  pub accepting : {n : ℕ} → a ≡ Accepted n → answerMeant a ≡ accepted n
+  unfolding answerMeant
+  accepting e = ap answerMeant e
+
+  pub refusing : {k : ℕ} → a ≡ Refused k → answerMeant a ≡ refusedWith k
+  unfolding answerMeant
+  refusing e = ap answerMeant e
+
+-- a definition's size, as it is answered and written
+module _ {i lent : ℕ} {s before after : List ℕ} {f : Fixed} (c : FixedCall i s before after f) (room : length before ≡ lent) where
+  module _ {size alignment n : ℕ} (e : f ≡ Sized size alignment n) where
+    sized : fixedMeant f ≡ accepted n
+    unfolding fixedMeant
+    sized = ap fixedMeant e
+
+    pub sized-within : n ≤ length after
+    sized-within = accepted-within (placing i s) (c .call) sized
+
+    pub sizes : {o₀ o₁ o₂ o₃ : List ℕ} {p q r : ℕ} → Writes (lines (size ∷ [])) o₀ 0 o₁ p → Writes (lines (alignment ∷ [])) o₁ p o₂ q
+        → Writes (lines (take n after)) o₂ q o₃ r → Holds (sizeTo (sizing i s) (placing i s) lent) o₃ r
+    unfolding sizeTo
+    sizes {o₃ = o₃} {r = r} w v u =
+        let f = filled (placing i s) (c .call) sized in
+        let extent : sizing i s ≡ result (size ∷ alignment ∷ []) = subst (λ f. Extents (sizing i s) f) e (c .extents) in
+        let answered : answerOf (placing i s) lent ≡ accepted n = sym (ap (answerOf (placing i s)) room) ∙ sym (c .call .answer) ∙ sized in
+        let joined = ap (λ l. lines (size ∷ []) ++ l) (sym (lines-append (alignment ∷ []) (take n after))) ∙ sym (lines-append (size ∷ []) (alignment ∷ take n after)) in
+        record { within = u .room; first = rw (answered, extent, f .outcome, ← f .first) (writes-then w (writes-then v u) .places ∙ joined) }
+
+  pub size-refuses : {k r : ℕ} {out : List ℕ} → f ≡ fixed.Refused k → Holds (refusalBytes k) out r → Holds (sizeTo (sizing i s) (placing i s) lent) out r
+  unfolding sizeTo fixedMeant
+  size-refuses {r = r} {out} e w =
+      subst (λ a. Holds (linesOf a (numbersOf (sizing i s) ++ numbersOf (placing i s))) out r) (sym (ap fixedMeant e) ∙ c .call .answer ∙ ap (answerOf (placing i s)) room) w
 
 -- a chain has at most 1,025 names
 chain-fits : (from to : ℕ) (s : List ℕ) → Bytes s → (names : List ℕ) → chaining from to s ≡ result names → length names ≤ 1025
@@ -72,10 +123,10 @@ chain-fits from to s bytes names = go (readBundle s) refl
     go (refused k) e p = let z : _≡_ {A = ℕ} 0 1 = cc in absurd (omega arith)
 
 -- so a chain is refused only where the bundle is
-pub chain-refuses : (from to : ℕ) (s : List ℕ) → Bytes s → {list list′ out : List ℕ} {a : code.Answer} {k r : ℕ} → Call (chaining from to s) list list′ (answerMeant a)
-    → 1025 ≤ length list → a ≡ Refused k → Holds (refusalBytes k) out r → Holds (linesTo (chaining from to s)) out r
-unfolding linesTo answerMeant answerOf
-chain-refuses from to s bytes {list} {out = out} {k = k} {r} c room e w = go (chaining from to s) refl (sym (ap answerMeant e) ∙ c .answer)
+pub chain-refuses : (from to : ℕ) (s : List ℕ) → Bytes s → {list list′ out : List ℕ} {a : Answer} {k r : ℕ} → Call (chaining from to s) list list′ a
+    → 1025 ≤ length list → a ≡ refusedWith k → Holds (refusalBytes k) out r → Holds (linesTo (chaining from to s)) out r
+unfolding linesTo answerOf
+chain-refuses from to s bytes {list} {out = out} {k = k} {r} c room e w = go (chaining from to s) refl (sym e ∙ c .answer)
   where
     go : (o : Outcome) → chaining from to s ≡ o → refusedWith k ≡ answerOf o (length list) → Holds (linesTo o) out r
     go (result names) e p =

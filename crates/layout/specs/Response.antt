@@ -1,15 +1,16 @@
 -- What the program writes.
 use Prim.Native.Nat.{ℕ, _≤_}
-use mathlib.Core.List.{List, [], _∷_}
+use mathlib.Core.List.{List, [], _∷_, _++_}
 use mathlib.Core.Path.{_≡_}
 use lib.ListN.{length, take}
 use Rattle.decimal.specs.Decimal.{lines}
 use Rattle.meaning.specs.Calls.{Answer, accepted, refusedWith, Outcome, result, refusal, answerOf}
 use Rattle.meaning.specs.Due.{reporting, renumbering, chaining}
+use Rattle.fixed_meaning.specs.Fixed.{sizing, placing}
 use Rattle.words.specs.declared.Input.{Input}
 use Rattle.words.specs.declared.Input.the-variants.{Bytes, Failed}
 use Rattle.words.specs.declared.Order.{Order}
-use Rattle.words.specs.declared.Order.the-variants.{Report, Renumber, Chain, Help, Wrong}
+use Rattle.words.specs.declared.Order.the-variants.{Report, Renumber, Chain, Size, Help, Wrong}
 
 -- a refusal: 7E and its number
 abbrev pub refusalBytes : ℕ → List ℕ
@@ -30,18 +31,33 @@ unfoldable pub linesTo : Outcome → List ℕ
 linesTo (result names) = lines names
 linesTo (refusal k) = refusalBytes k
 
--- what an order gets for a bundle, where so many places are lent
-abbrev pub answerTo : Order → List ℕ → ℕ → List ℕ
-answerTo Report s lent = responseTo (reporting s) lent
-answerTo Renumber s lent = responseTo (renumbering s) lent
-answerTo (Chain from to) s lent = linesTo (chaining from to s)
-answerTo Help s lent = []
-answerTo Wrong s lent = []
+-- the numbers of a result
+abbrev pub numbersOf : Outcome → List ℕ
+numbersOf (result numbers) = numbers
+numbersOf (refusal k) = []
+
+-- numbers, each to a line in decimal, or the refusal that was answered
+abbrev pub linesOf : Answer → List ℕ → List ℕ
+linesOf (accepted n) numbers = lines numbers
+linesOf (refusedWith k) numbers = refusalBytes k
+
+-- size and alignment, then the offsets, where so many places are lent for these
+unfoldable pub sizeTo : Outcome → Outcome → ℕ → List ℕ
+sizeTo extent offsets lent = linesOf (answerOf offsets lent) (numbersOf extent ++ numbersOf offsets)
+
+-- what an order gets for a bundle: there are 65,536 places for a report or a renumbered bundle, and 8,192 for offsets
+abbrev pub answerTo : Order → List ℕ → List ℕ
+answerTo Report s = responseTo (reporting s) 65536
+answerTo Renumber s = responseTo (renumbering s) 65536
+answerTo (Chain from to) s = linesTo (chaining from to s)
+answerTo (Size definition) s = sizeTo (sizing definition s) (placing definition s) 8192
+answerTo Help s = []
+answerTo Wrong s = []
 
 -- what goes to standard output for what was read into the places: nothing where reading failed. The text of help is the code's
-abbrev pub outputOf : Order → Input → List ℕ → ℕ → List ℕ
-outputOf order (Bytes n) places lent = answerTo order (take n places) lent
-outputOf order Failed places lent = []
+abbrev pub outputOf : Order → Input → List ℕ → List ℕ
+outputOf order (Bytes n) places = answerTo order (take n places)
+outputOf order Failed places = []
 
 -- the text stands in the first r places
 pub record Holds (text places : List ℕ) (r : ℕ) : Type 0 where

@@ -1,7 +1,8 @@
 // Reads a bundle from standard input and writes what the program's arguments ask for to standard output: its report, the bundle with
-// its names renumbered, or a chain; for a refused bundle 7E and the number of its refusal. Messages go to standard error, as when one of
-// the two fails.
+// its names renumbered, a chain, or the size of a definition; for a refused bundle 7E and the number of its refusal. Messages go to
+// standard error, as when one of the two fails.
 use bundle::Answer;
+use offsets::Fixed;
 use words::Input;
 use words::Message;
 use words::Order;
@@ -12,9 +13,19 @@ ghost use Prim.Native.Nat.{ℕ, _≤_};
 ghost use lib.ListN.{length};
 ghost use Rattle.meaning.specs.Calls.{Outcome, Call};
 ghost use Rattle.meaning.specs.Due.{reporting, renumbering, chaining};
+ghost use Rattle.fixed_meaning.specs.Fixed.{sizing, placing};
 ghost use Rattle.bundle.specs.Opened.{answerMeant};
 ghost use Rattle.layout.specs.Reading.{TurnWithin, ReadInto};
-ghost use Rattle.layout.specs.Response.{refusalBytes, responseTo, linesTo, answerTo, outputOf, Holds};
+ghost use Rattle.layout.specs.Response.{refusalBytes, responseTo, linesTo, sizeTo, answerTo, outputOf, Holds};
+
+// Room for a report or a renumbered bundle: a longer one is refused with 9.
+const REPORT_ROOM: usize = 65536;
+
+// Room for the offsets of a definition's fields, of which no bundle has so many.
+const FIELD_ROOM: usize = 8192;
+
+// Room for all that is written: for offsets, lines of 11 bytes behind two of 21.
+const ROOM: usize = 98304;
 
 // Room for the longest bundle and one byte more.
 fn input_buffer() -> [u8; bundle::BYTE_LIMIT + 1]
@@ -75,15 +86,33 @@ fn respond_chain(bundle: &[u8], from: u16, to: u16, out: &mut [u8]) -> usize
     }
 }
 
+// The size, the alignment and the offsets of a definition, each to a line.
+fn respond_size(bundle: &[u8], definition: u16, out: &mut [u8]) -> usize
+    requires { ⌜ 90154 ≤ length (now out) ⌝ }
+    ensures { λ r. ⌜ Holds (sizeTo (sizing definition (now (bundle .entry))) (placing definition (now (bundle .entry))) 8192) (now (out .exit)) r ⌝ }
+{
+    let mut list = [0u32; FIELD_ROOM];
+    let answer = offsets::fixed_size(bundle, definition as usize, &mut list);
+    match answer {
+        Fixed::Sized(size, alignment, n) => {
+            let second = decimal::put_line(out, 0, size);
+            let third = decimal::put_line(out, second, alignment);
+            decimal::write_numbers(&list, n, out, third)
+        }
+        Fixed::Refused(k) => put_refusal(k, out),
+    }
+}
+
 // What an order gets for a bundle.
 fn answer(order: Order, bundle: &[u8], out: &mut [u8]) -> usize
-    requires { ⌜ 6150 ≤ length (now out) ⌝ }
-    ensures { λ r. ⌜ Holds (answerTo order (now (bundle .entry)) (length (now (out .entry)))) (now (out .exit)) r ⌝ }
+    requires { ⌜ 90154 ≤ length (now out) ⌝ }
+    ensures { λ r. ⌜ Holds (answerTo order (now (bundle .entry))) (now (out .exit)) r ⌝ }
 {
     match order {
-        Order::Report => respond(bundle, out),
-        Order::Renumber => respond_renumbered(bundle, out),
+        Order::Report => respond(bundle, &mut out[..REPORT_ROOM]),
+        Order::Renumber => respond_renumbered(bundle, &mut out[..REPORT_ROOM]),
         Order::Chain(from, to) => respond_chain(bundle, from, to, out),
+        Order::Size(definition) => respond_size(bundle, definition, out),
         Order::Help => 0,
         Order::Wrong => 0,
     }
@@ -138,8 +167,8 @@ fn read_for(order: Order, buf: &mut [u8]) -> Input
 // What goes to standard output, but for the text of help.
 fn output(order: Order, read: Input, input: &[u8], out: &mut [u8]) -> usize
     requires { ⌜ ReadInto read (now input) ⌝ }
-    requires { ⌜ 6150 ≤ length (now out) ⌝ }
-    ensures { λ r. ⌜ Holds (outputOf order read (now (input .entry)) (length (now (out .entry)))) (now (out .exit)) r ⌝ }
+    requires { ⌜ 90154 ≤ length (now out) ⌝ }
+    ensures { λ r. ⌜ Holds (outputOf order read (now (input .entry))) (now (out .exit)) r ⌝ }
 {
     match read {
         Input::Bytes(n) => answer(order, &input[..n], out),
@@ -156,8 +185,9 @@ fn write(order: Order, answer: &[u8]) -> bool {
               layout                its report\n  \
               layout renumber       the bundle with its names renumbered\n  \
               layout chain FROM TO  the names on the chain, one to a line\n  \
+              layout size NUMBER    the size, alignment and field offsets of a definition\n  \
               layout help           this text, as with --help or -h\n\
-              FROM and TO are decimal numbers from 0 to 65535.\n\
+              NUMBER, FROM and TO are decimal numbers from 0 to 65535.\n\
               A bundle that is refused gets two bytes: 7E and the number.\n",
         );
     }
@@ -168,7 +198,7 @@ fn write(order: Order, answer: &[u8]) -> bool {
 fn run(order: Order) -> Message {
     let mut input = input_buffer();
     let read = read_for(order, &mut input);
-    let mut out = io::large_buffer();
+    let mut out = [0; ROOM];
     let size = output(order, read, &input, &mut out);
     let written = write(order, &out[..size]);
     words::message_of(order, read, written)
@@ -181,7 +211,7 @@ fn say(message: Message) {
         Message::Arguments => {
             io::write_all(
                 err,
-                b"layout: wrong arguments; take none, renumber, chain FROM TO (0 to 65535) or help\n",
+                b"layout: wrong arguments; take none, renumber, chain FROM TO, size NUMBER (each 0 to 65535) or help\n",
             );
         }
         Message::Unread => {
