@@ -29,7 +29,7 @@ use Rattle.offsets.specs.declared.Fixed.{Fixed}
 use Rattle.offsets.specs.declared.Fixed.the-variants as fixed
 use Rattle.offsets.specs.declared.Fixed.the-variants.{Sized}
 use Rattle.offsets.specs.Placed.{answerMeant as fixedMeant, Extents, FixedCall}
-use Rattle.layout.specs.Response.{refusalBytes, written, responseTo, linesTo, numbersOf, linesOf, sizeTo, Holds}
+use Rattle.responses.specs.Response.{refusalBytes, written, responseTo, linesTo, numbersOf, linesOf, sizeTo, Holds}
 
 -- what an acceptance leaves in the places
 module _ (o : Outcome) {before after : List ℕ} {a : Answer} {n : ℕ} (c : Call o before after a) (e : a ≡ accepted n) where

@@ -1,10 +1,10 @@
 use borrow.Author.Needs.{needs}
-use Rattle.layout.proofs.answer.Statement.{statement}
-use Rattle.layout.proofs.answer.Tie as tie
+use Rattle.responses.proofs.answer.Statement.{statement}
+use Rattle.responses.proofs.answer.Tie as tie
 use native.Mathlib.Omega.{arith}
 use mathlib.Core.Path.{sym}
 use lib.Seq.{length-take-le}
-use Rattle.layout.proofs.Responding.{in-part}
+use Rattle.responses.proofs.Responding.{in-part}
 
 enum-told : tie.Need-enum-told
 enum-told c = search needs

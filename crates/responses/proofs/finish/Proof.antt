@@ -1,7 +1,7 @@
 use borrow.Author.Needs.{needs}
-use Rattle.layout.proofs.finish.Statement.{statement}
-use Rattle.layout.proofs.finish.Tie as tie
-use Rattle.layout.proofs.Responding.{accepting, refusing, accepts, refuses}
+use Rattle.responses.proofs.finish.Statement.{statement}
+use Rattle.responses.proofs.finish.Tie as tie
+use Rattle.responses.proofs.Responding.{accepting, refusing, accepts, refuses}
 
 enum-known-answer : tie.Need-enum-known-answer
 enum-known-answer c = search needs

@@ -1,12 +1,12 @@
 use borrow.Author.Needs.{needs}
-use Rattle.layout.proofs.respond_size.Statement.{statement}
-use Rattle.layout.proofs.respond_size.Tie as tie
+use Rattle.responses.proofs.respond_size.Statement.{statement}
+use Rattle.responses.proofs.respond_size.Tie as tie
 use native.Mathlib.Omega.{arith}
 use Prim.Native.Nat.{ℕ}
 use lib.ListN.{length-replicate}
 use Rattle.decimal.proofs.DecimalLaws.{line-size}
 use Rattle.decimal.proofs.Writing.{writes-end}
-use Rattle.layout.proofs.Responding.{sized-within, sizes, size-refuses}
+use Rattle.responses.proofs.Responding.{sized-within, sizes, size-refuses}
 
 slice-aggregate-fixed-size : tie.Need-slice-aggregate-fixed-size
 slice-aggregate-fixed-size c = search needs

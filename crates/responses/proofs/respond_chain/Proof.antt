@@ -1,10 +1,10 @@
 use borrow.Author.Needs.{needs}
-use Rattle.layout.proofs.respond_chain.Statement.{statement}
-use Rattle.layout.proofs.respond_chain.Tie as tie
+use Rattle.responses.proofs.respond_chain.Statement.{statement}
+use Rattle.responses.proofs.respond_chain.Tie as tie
 use native.Mathlib.Omega.{arith}
 use Prim.Native.Nat.{ℕ}
 use lib.ListN.{length-replicate}
-use Rattle.layout.proofs.Responding.{accepting, refusing, accepted-within, lists, chain-refuses}
+use Rattle.responses.proofs.Responding.{accepting, refusing, accepted-within, lists, chain-refuses}
 
 slice-aggregate-find-layout-dependency-chain :
     tie.Need-slice-aggregate-find-layout-dependency-chain

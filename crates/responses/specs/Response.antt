@@ -7,8 +7,6 @@ use Rattle.decimal.specs.Decimal.{lines}
 use Rattle.meaning.specs.Calls.{Answer, accepted, refusedWith, Outcome, result, refusal, answerOf}
 use Rattle.meaning.specs.Due.{reporting, renumbering, chaining}
 use Rattle.fixed_meaning.specs.Fixed.{sizing, placing}
-use Rattle.words.specs.declared.Input.{Input}
-use Rattle.words.specs.declared.Input.the-variants.{Bytes, Failed}
 use Rattle.words.specs.declared.Order.{Order}
 use Rattle.words.specs.declared.Order.the-variants.{Report, Renumber, Chain, Size, Help, Wrong}
 
@@ -53,11 +51,6 @@ answerTo (Chain from to) s = linesTo (chaining from to s)
 answerTo (Size definition) s = sizeTo (sizing definition s) (placing definition s) 8192
 answerTo Help s = []
 answerTo Wrong s = []
-
--- what goes to standard output for what was read into the places: nothing where reading failed. The text of help is the code's
-abbrev pub outputOf : Order → Input → List ℕ → List ℕ
-outputOf order (Bytes n) places = answerTo order (take n places)
-outputOf order Failed places = []
 
 -- the text stands in the first r places
 pub record Holds (text places : List ℕ) (r : ℕ) : Type 0 where
