@@ -1,5 +1,5 @@
 -- What a call leaves in its places, as the program writes it.
-use Prim.Native.Nat.{ℕ, _≤_}
+use Prim.Native.Nat.{ℕ, _+_, _^_, _≤_, _<_}
 use native.Mathlib.Omega.{arith}
 use mathlib.Core.Bool.{Bool, true, false, cond}
 use mathlib.Core.List.{List, [], _∷_, _++_}
@@ -8,8 +8,8 @@ use mathlib.Core.Path.{_≡_, refl, sym, ap, subst, _∙_}
 use lib.ListN.{length, take, set, length-append, length-take}
 use lib.Seq.{length-take-le, take-append-le}
 use Rattle.decimal.specs.Decimal.{lines, Writes}
-use Rattle.decimal.proofs.DecimalLaws.{lines-append}
-use Rattle.decimal.proofs.Writing.{writes-then}
+use Rattle.decimal.proofs.DecimalLaws.{line-size, lines-append}
+use Rattle.decimal.proofs.Writing.{writes-then, writes-end}
 use Rattle.meaning.specs.Tree.{Bundle}
 use Rattle.meaning.specs.Encoding.{Bytes}
 use Rattle.meaning.specs.Reader.{Read, ok, refused}
@@ -61,14 +61,22 @@ pub refuses : (o : Outcome) {before after out : List ℕ} {a : Answer} {k r : �
 unfolding responseTo
 refuses o {out = out} {r = r} c e w = subst (λ a. Holds (written a o) out r) (sym e ∙ c .answer) w
 
--- what was put into the first places of a part stands there in the whole
-pub in-part : (o : Outcome) (room : ℕ) (out : List ℕ) {part : List ℕ} (rest : List ℕ) {r : ℕ} → room ≤ length out
-    → Holds (responseTo o (length (take room out))) part r → Holds (responseTo o room) (part ++ rest) r
-in-part o room out {part} rest {r} fits h =
-    record {
-      within = omega (arith, length-append part rest, h .within);
-      first = take-append-le r part rest (h .within) ∙ h .first ∙ ap (responseTo o) (length-take-le room out fits);
-    }
+-- a report's room is a part of all the room
+module _ (out : List ℕ) (enough : 90154 ≤ length out) where
+  pub report-room : length (take 65536 out) ≡ 65536
+  report-room = length-take-le 65536 out (omega arith)
+
+  -- what was put into the first places of the part stands there in the whole
+  pub in-part : (o : Outcome) {part : List ℕ} (rest : List ℕ) {r : ℕ} → Holds (responseTo o (length (take 65536 out))) part r → Holds (responseTo o 65536) (part ++ rest) r
+  in-part o {part} rest {r} h =
+      record {
+        within = omega (arith, length-append part rest, h .within);
+        first = take-append-le r part rest (h .within) ∙ h .first ∙ ap (responseTo o) report-room;
+      }
+
+-- where a line of a number of 64 bits ends
+pub line-end : {n at r : ℕ} {out out′ : List ℕ} → n < 2 ^ 64 → at ≤ length out → Writes (lines (n ∷ [])) out at out′ r → r ≤ at + 21
+line-end {n} small within w = omega (arith, line-size 19 n (omega arith), writes-end w within)
 
 -- the answers of the code as those of a call
 module _ {a : code.Answer} where

@@ -5,8 +5,7 @@ use native.Mathlib.Omega.{arith}
 use Prim.Native.Nat.{ℕ}
 use lib.ListN.{length-replicate}
 use Rattle.decimal.proofs.DecimalLaws.{line-size}
-use Rattle.decimal.proofs.Writing.{writes-end}
-use Rattle.responses.proofs.Responding.{sized-within, sizes, size-refuses}
+use Rattle.responses.proofs.Responding.{line-end, sized-within, sizes, size-refuses}
 
 slice-aggregate-fixed-size : tie.Need-slice-aggregate-fixed-size
 slice-aggregate-fixed-size c = search needs
@@ -21,13 +20,13 @@ put-line-requires : tie.Need-put-line-requires
 put-line-requires c κs = omega (arith, line-size 19 (c .before .before .answer .given .0 .0) (omega arith), c .before .before .before .before .before .before .before .before .before .pre)
 
 put-line-requires-2 : tie.Need-put-line-requires-2
-put-line-requires-2 c κs = omega (arith, line-size 19 (c .before .before .before .before .before .before .answer .given .0 .0) (omega arith), line-size 19 (c .before .before .before .before .before .before .answer .given .0 .1 .0) (omega arith), writes-end (c .before .before .before .put-line .ensures) (omega arith), c .before .before .before .put-line .kept, c .before .before .before .before .before .before .before .before .before .before .before .before .before .pre)
+put-line-requires-2 c κs = omega (arith, line-size 19 (c .before .before .before .before .before .before .answer .given .0 .1 .0) (omega arith), line-end (omega arith) (omega arith) (c .before .before .before .put-line .ensures), c .before .before .before .put-line .kept, c .before .before .before .before .before .before .before .before .before .before .before .before .before .pre)
 
 slice-aggregate-write-numbers : tie.Need-slice-aggregate-write-numbers
 slice-aggregate-write-numbers c = search needs
 
 write-numbers-requires : tie.Need-write-numbers-requires
-write-numbers-requires c κs = let n = sized-within (c .before .before .before .before .before .before .before .before .before .before .before .before .before .before .fixed-size .ensures) (length-replicate {A = ℕ} 8192 0) (c .before .before .before .before .before .before .before .before .before .before .before .answer .given .1) in (omega arith, omega (arith, line-size 19 (c .before .before .before .before .before .before .before .before .before .before .before .answer .given .0 .0) (omega arith), line-size 19 (c .before .before .before .before .before .before .before .before .before .before .before .answer .given .0 .1 .0) (omega arith), writes-end (c .before .before .before .before .before .before .before .before .put-line .ensures) (omega arith), writes-end (c .before .before .before .before .put-line2 .ensures) (c .before .before .before .before .before .before .before .before .put-line .ensures .room), c .before .before .before .before .before .before .before .before .put-line .kept, c .before .before .before .before .put-line2 .kept, length-replicate {A = ℕ} 8192 0, c .before .before .before .before .before .before .before .before .before .before .before .before .before .before .fixed-size .kept, c .before .before .before .before .before .before .before .before .before .before .before .before .before .before .before .before .before .before .pre))
+write-numbers-requires c κs = let n = sized-within (c .before .before .before .before .before .before .before .before .before .before .before .before .before .before .fixed-size .ensures) (length-replicate {A = ℕ} 8192 0) (c .before .before .before .before .before .before .before .before .before .before .before .answer .given .1) in (omega arith, omega (arith, line-end (omega arith) (omega arith) (c .before .before .before .before .before .before .before .before .put-line .ensures), line-end (omega arith) (c .before .before .before .before .before .before .before .before .put-line .ensures .room) (c .before .before .before .before .put-line2 .ensures), c .before .before .before .before .before .before .before .before .put-line .kept, c .before .before .before .before .put-line2 .kept, length-replicate {A = ℕ} 8192 0, c .before .before .before .before .before .before .before .before .before .before .before .before .before .before .fixed-size .kept, c .before .before .before .before .before .before .before .before .before .before .before .before .before .before .before .before .before .before .pre))
 
 enum-known-answer-2 : tie.Need-enum-known-answer-2
 enum-known-answer-2 c = search needs
