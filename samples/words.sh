@@ -7,7 +7,7 @@ cd "$(dirname "$0")/.."
 program=${1:-target/bin/layout}
 work=$(mktemp -d)
 trap 'rm -rf "$work"' EXIT
-echo 'layout: wrong arguments; take none, renumber, chain FROM TO (0 to 65535) or help' > "$work/wrong"
+echo 'layout: wrong arguments; take none, renumber, chain FROM TO, size NUMBER (each 0 to 65535) or help' > "$work/wrong"
 echo 'layout: standard input cannot be read' > "$work/unread"
 echo 'layout: standard output cannot be written' > "$work/unwritten"
 : > "$work/nothing"
@@ -89,6 +89,7 @@ while IFS= read -r line; do
       name=${rest%% *}
       bytes "${rest#"$name"}" > "$work/bundle-$name"
       ;;
+    'more '*) bytes "${line#more }" >> "$work/bundle-$name" ;;
     'case '*)
       rest=${line#case }
       input=${rest%% |*}
@@ -102,7 +103,8 @@ done < samples/words.txt
 edge() {
   printf '62 %02x%02x %02x%02x 00' $(($1 % 256)) $(($1 / 256)) $((($1 + 1) % 256)) $((($1 + 1) / 256))
 }
-{ bytes '60 0000 0004 0000'; n=64511; while [ $n -lt 65535 ]; do bytes "$(edge $n)"; n=$((n + 1)); done; } > "$work/bundle-longest"
+bytes "$(n=64511; while [ $n -lt 65535 ]; do edge $n; n=$((n + 1)); done)" > "$work/edges"
+{ bytes '60 0000 0004 0000'; cat "$work/edges"; } > "$work/bundle-longest"
 cp "$work/bundle-longest" "$work/input"
 from=longest
 to=
@@ -112,10 +114,42 @@ run chain 64511 65535
 compare 'longest, chain 64511 65535' "$work/nothing" "$work/nothing"
 try longest 'chain 65535 64511' lines
 
+# A report of 64,914 bytes: 21 arrays 65535, each sized by 64511.1, from which that chain leads to it. One more is over the room.
+arrays() {
+  bytes "60 $1 0004 0000"
+  n=0
+  while [ $n -lt $2 ]; do bytes '61 ffff 44 00 0000000000000000 00 0a fffb 0100 30'; n=$((n + 1)); done
+  cat "$work/edges"
+}
+bytes "$(n=64511; while [ $n -le 65535 ]; do printf '7f%02x%02x' $((n % 256)) $((n / 256)); n=$((n + 1)); done)" > "$work/chain"
+{
+  bytes '70 1500'
+  d=0
+  while [ $d -lt 21 ]; do bytes "$(printf '73 %02x00 ffff 02 fffb 0100 0000 0000 0104' $d)"; cat "$work/chain"; d=$((d + 1)); done
+} > "$work/due"
+arrays 1500 21 > "$work/input"
+from=arrays
+run
+compare 'arrays, 21' "$work/nothing" "$work/nothing"
+arrays 1600 22 > "$work/bundle-arrays"
+try arrays '' 'bytes 7e 09'
+
+# The most that is written: a struct of 4,294,900,000 bytes and 8,181 more, with offsets of ten digits.
+{
+  bytes '60 0100 0000 0000 61 0100 41 00 0000000000000000 f61f 50 0a00 44 00 0000000000000000 00 02 20f9feff 30'
+  bytes "$(n=0; while [ $n -lt 8181 ]; do printf '500a0030'; n=$((n + 1)); done)"
+} > "$work/bundle-widest"
+cp "$work/bundle-widest" "$work/input"
+from=widest
+{ echo 4294908181; echo 1; echo 0; n=0; while [ $n -lt 8181 ]; do echo $((4294900000 + n)); n=$((n + 1)); done; } > "$work/due"
+run size 0
+compare 'widest, size 0' "$work/nothing" "$work/nothing"
+
 # A bundle of more than 32,768 bytes, and an argument of more than 4,096.
 head -c 32769 /dev/zero > "$work/bundle-overlong"
 try overlong renumber 'bytes 7e 01'
 try overlong 'chain 1 1' 'bytes 7e 01'
+try overlong 'size 0' 'bytes 7e 01'
 try edges "chain 7 $(printf '%04097d' 9)" wrong
 echo "$passed passed, $failed failed"
 [ "$failed" -eq 0 ]

@@ -1,5 +1,5 @@
 -- Laws of decimal text.
-use Prim.Native.Nat.{ℕ, zero, suc, _+_, _*_, _/_, _%_, _≤_, _<_}
+use Prim.Native.Nat.{ℕ, zero, suc, _+_, _^_, _/_, _%_, _≤_, _<_}
 use native.Mathlib.Omega.{arith}
 use mathlib.Core.Bool.{Bool, true, false, cond}
 use mathlib.Core.List.{List, [], _∷_, _++_, append-assoc}
@@ -35,26 +35,22 @@ decimal-more n h = rw (le-ltb n 10 h) (ap (λ ds. ds ++ (48 + n % 10) ∷ []) (d
 pub decimal-last : (n : ℕ) → 10 ≤ n → length (decimal n) ≡ length (decimal (n / 10)) + 1
 decimal-last n h = ap length (decimal-more n h) ∙ length-append (decimal (n / 10)) ((48 + n % 10) ∷ [])
 
--- a name takes at most five digits, one at least
-abbrev below : ℕ → ℕ
-below zero = 1
-below (suc k) = 10 * below k
-
-decimal-size : (k n : ℕ) → n < below (suc k) → length (decimal n) ≤ suc k
+-- a number below 10 ^ (k + 1) takes at most k + 1 digits
+decimal-size : (k n : ℕ) → n < 10 ^ suc k → length (decimal n) ≤ suc k
 decimal-size zero n h = omega (arith, ap length (decimal-one n (omega arith)))
 decimal-size (suc k) n h = go (decLt n 10) (λ p. decimal-size k (n / 10) p)
   where
-    go : Dec (n < 10) → (n / 10 < below (suc k) → length (decimal (n / 10)) ≤ suc k) → length (decimal n) ≤ suc (suc k)
+    go : Dec (n < 10) → (n / 10 < 10 ^ suc k → length (decimal (n / 10)) ≤ suc k) → length (decimal n) ≤ suc (suc k)
     go (yes p) s = omega (arith, ap length (decimal-one n p))
     go (no p) s = omega (arith, s (omega arith), decimal-last n (omega arith))
 
-pub name-size : (n : ℕ) → n < 65536 → length (decimal n) ≤ 5
-name-size n h = decimal-size 4 n (omega arith)
-
--- a name's line, and the lines of more names
-pub line-size : (n : ℕ) → n < 65536 → length (lines (n ∷ [])) ≤ 6
+-- its line takes one byte more
+pub line-length : (n : ℕ) → length (lines (n ∷ [])) ≡ length (decimal n) + 1
 unfolding lines
-line-size n h = omega (arith, name-size n h, length-append (decimal n) (10 ∷ []))
+line-length n = length-append (decimal n) (10 ∷ [])
+
+pub line-size : (k n : ℕ) → n < 10 ^ suc k → length (lines (n ∷ [])) ≤ suc (suc k)
+line-size k n h = omega (arith, decimal-size k n h, line-length n)
 
 pub lines-append : (ns ms : List ℕ) → lines (ns ++ ms) ≡ lines ns ++ lines ms
 unfolding lines

@@ -1,4 +1,4 @@
-// Names as decimal text: written to lines, and read from a word.
+// Numbers as decimal text: written to lines, and names read from a word.
 ghost use mathlib.Core.List.{[], _∷_};
 ghost use Prim.Native.Nat.{_+_, _*_, _≤_, _<_};
 ghost use lib.ListN.{length, take};
@@ -22,7 +22,7 @@ fn put(out: &mut [u8], at: usize, value: u8) -> usize
 }
 
 // Writes the decimal text of a number.
-fn put_decimal(out: &mut [u8], at: usize, n: u16) -> usize
+fn put_decimal(out: &mut [u8], at: usize, n: u64) -> usize
     requires { ⌜ at + length (decimal n) ≤ length (now out) ⌝ }
     ensures { λ r. ⌜ Writes (decimal n) (now (out .entry)) at (now (out .exit)) r ⌝ }
 {
@@ -34,8 +34,8 @@ fn put_decimal(out: &mut [u8], at: usize, n: u16) -> usize
 }
 
 // Writes the decimal text of a number and a line feed.
-fn put_line(out: &mut [u8], at: usize, n: u16) -> usize
-    requires { ⌜ at + 6 ≤ length (now out) ⌝ }
+pub fn put_line(out: &mut [u8], at: usize, n: u64) -> usize
+    requires { ⌜ at + length (lines (n ∷ [])) ≤ length (now out) ⌝ }
     ensures { λ r. ⌜ Writes (lines (n ∷ [])) (now (out .entry)) at (now (out .exit)) r ⌝ }
 {
     let next = put_decimal(out, at, n);
@@ -50,7 +50,21 @@ pub fn write_names(list: &[u16], n: usize, out: &mut [u8]) -> usize
     let mut at = 0;
     let mut i = 0;
     while i < n {
-        at = put_line(out, at, list[i]);
+        at = put_line(out, at, list[i] as u64);
+        i += 1;
+    }
+    at
+}
+
+// Writes the first n numbers of a list, each to a line.
+pub fn write_numbers(list: &[u32], n: usize, out: &mut [u8], start: usize) -> usize
+    requires { ⌜ (n ≤ length (now list)) × (start + 11 * n ≤ length (now out)) ⌝ }
+    ensures { λ r. ⌜ Writes (lines (take n (now (list .entry)))) (now (out .entry)) start (now (out .exit)) r ⌝ }
+{
+    let mut at = start;
+    let mut i = 0;
+    while i < n {
+        at = put_line(out, at, list[i] as u64);
         i += 1;
     }
     at

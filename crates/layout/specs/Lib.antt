@@ -1,2 +1,2 @@
-pub mod Response
+pub mod Output
 pub mod Reading

@@ -1,92 +1,22 @@
 // Reads a bundle from standard input and writes what the program's arguments ask for to standard output: its report, the bundle with
-// its names renumbered, or a chain; for a refused bundle 7E and the number of its refusal. Messages go to standard error, as when one of
-// the two fails.
-use bundle::Answer;
+// its names renumbered, a chain, or the size of a definition; for a refused bundle 7E and the number of its refusal. Messages go to
+// standard error, as when one of the two fails.
 use words::Input;
 use words::Message;
 use words::Order;
 use words::Turn;
-ghost use mathlib.Core.List.{List};
 ghost use mathlib.Core.Path.{_≡_};
-ghost use Prim.Native.Nat.{ℕ, _≤_};
+ghost use Prim.Native.Nat.{_≤_};
 ghost use lib.ListN.{length};
-ghost use Rattle.meaning.specs.Calls.{Outcome, Call};
-ghost use Rattle.meaning.specs.Due.{reporting, renumbering, chaining};
-ghost use Rattle.bundle.specs.Opened.{answerMeant};
 ghost use Rattle.layout.specs.Reading.{TurnWithin, ReadInto};
-ghost use Rattle.layout.specs.Response.{refusalBytes, responseTo, linesTo, answerTo, outputOf, Holds};
+ghost use Rattle.responses.specs.Response.{Holds};
+ghost use Rattle.layout.specs.Output.{outputOf};
 
 // Room for the longest bundle and one byte more.
 fn input_buffer() -> [u8; bundle::BYTE_LIMIT + 1]
     ensures { λ r. ⌜ 32769 ≡ length r ⌝ }
 {
     [0; bundle::BYTE_LIMIT + 1]
-}
-
-// Puts 7E and the number of a refusal into the first places of `out`. Returns how many bytes that are, as all functions here do.
-fn put_refusal(k: u8, out: &mut [u8]) -> usize
-    requires { ⌜ 2 ≤ length (now out) ⌝ }
-    ensures { λ r. ⌜ Holds (refusalBytes k) (now (out .exit)) r ⌝ }
-{
-    out[0] = 0x7E;
-    out[1] = k;
-    2
-}
-
-// What a call left in `out`, or the refusal that it answered.
-fn finish(answer: Answer, out: &mut [u8]) -> usize
-    requires { ⌜ 2 ≤ length (now out) ⌝ }
-    ensures { λ r. ⌜ ((o : Outcome) (before : List ℕ) → Call o before (now (out .entry)) (answerMeant answer) → Holds (responseTo o (length before)) (now (out .exit)) r) ⌝ }
-{
-    match answer {
-        Answer::Accepted(n) => n,
-        Answer::Refused(k) => put_refusal(k, out),
-    }
-}
-
-// The report.
-fn respond(bundle: &[u8], out: &mut [u8]) -> usize
-    requires { ⌜ 2 ≤ length (now out) ⌝ }
-    ensures { λ r. ⌜ Holds (responseTo (reporting (now (bundle .entry))) (length (now (out .entry)))) (now (out .exit)) r ⌝ }
-{
-    let answer = report::report(bundle, out);
-    finish(answer, out)
-}
-
-// The bundle with its names renumbered.
-fn respond_renumbered(bundle: &[u8], out: &mut [u8]) -> usize
-    requires { ⌜ 2 ≤ length (now out) ⌝ }
-    ensures { λ r. ⌜ Holds (responseTo (renumbering (now (bundle .entry))) (length (now (out .entry)))) (now (out .exit)) r ⌝ }
-{
-    let answer = renumber::renumber(bundle, out);
-    finish(answer, out)
-}
-
-// The names of the chain, each to a line.
-fn respond_chain(bundle: &[u8], from: u16, to: u16, out: &mut [u8]) -> usize
-    requires { ⌜ 6150 ≤ length (now out) ⌝ }
-    ensures { λ r. ⌜ Holds (linesTo (chaining from to (now (bundle .entry)))) (now (out .exit)) r ⌝ }
-{
-    let mut list = [0u16; bundle::CHAIN_LIMIT];
-    let answer = find_chain::find_layout_dependency_chain(bundle, from, to, &mut list);
-    match answer {
-        Answer::Accepted(n) => decimal::write_names(&list, n, out),
-        Answer::Refused(k) => put_refusal(k, out),
-    }
-}
-
-// What an order gets for a bundle.
-fn answer(order: Order, bundle: &[u8], out: &mut [u8]) -> usize
-    requires { ⌜ 6150 ≤ length (now out) ⌝ }
-    ensures { λ r. ⌜ Holds (answerTo order (now (bundle .entry)) (length (now (out .entry)))) (now (out .exit)) r ⌝ }
-{
-    match order {
-        Order::Report => respond(bundle, out),
-        Order::Renumber => respond_renumbered(bundle, out),
-        Order::Chain(from, to) => respond_chain(bundle, from, to, out),
-        Order::Help => 0,
-        Order::Wrong => 0,
-    }
 }
 
 // What the program's arguments ask for. One of more than 4,096 bytes counts as empty.
@@ -138,11 +68,11 @@ fn read_for(order: Order, buf: &mut [u8]) -> Input
 // What goes to standard output, but for the text of help.
 fn output(order: Order, read: Input, input: &[u8], out: &mut [u8]) -> usize
     requires { ⌜ ReadInto read (now input) ⌝ }
-    requires { ⌜ 6150 ≤ length (now out) ⌝ }
-    ensures { λ r. ⌜ Holds (outputOf order read (now (input .entry)) (length (now (out .entry)))) (now (out .exit)) r ⌝ }
+    requires { ⌜ 90154 ≤ length (now out) ⌝ }
+    ensures { λ r. ⌜ Holds (outputOf order read (now (input .entry))) (now (out .exit)) r ⌝ }
 {
     match read {
-        Input::Bytes(n) => answer(order, &input[..n], out),
+        Input::Bytes(n) => responses::answer(order, &input[..n], out),
         Input::Failed => 0,
     }
 }
@@ -156,8 +86,9 @@ fn write(order: Order, answer: &[u8]) -> bool {
               layout                its report\n  \
               layout renumber       the bundle with its names renumbered\n  \
               layout chain FROM TO  the names on the chain, one to a line\n  \
+              layout size NUMBER    the size, alignment and field offsets of a definition\n  \
               layout help           this text, as with --help or -h\n\
-              FROM and TO are decimal numbers from 0 to 65535.\n\
+              NUMBER, FROM and TO are decimal numbers from 0 to 65535.\n\
               A bundle that is refused gets two bytes: 7E and the number.\n",
         );
     }
@@ -168,7 +99,7 @@ fn write(order: Order, answer: &[u8]) -> bool {
 fn run(order: Order) -> Message {
     let mut input = input_buffer();
     let read = read_for(order, &mut input);
-    let mut out = io::large_buffer();
+    let mut out = [0; responses::ROOM];
     let size = output(order, read, &input, &mut out);
     let written = write(order, &out[..size]);
     words::message_of(order, read, written)
@@ -181,7 +112,7 @@ fn say(message: Message) {
         Message::Arguments => {
             io::write_all(
                 err,
-                b"layout: wrong arguments; take none, renumber, chain FROM TO (0 to 65535) or help\n",
+                b"layout: wrong arguments; take none, renumber, chain FROM TO, size NUMBER (each 0 to 65535) or help\n",
             );
         }
         Message::Unread => {

@@ -14,17 +14,18 @@ use Rattle.decimal.specs.Decimal.{Says}
 use Rattle.decimal.specs.Parsing.{IsParsed}
 use Rattle.words.specs.declared.Word as word
 use Rattle.words.specs.declared.Word.the-variants as is
-use Rattle.words.specs.Words.{renumberWord, chainWord, IsHelp, IsWord, AsksChain, AsksNothing, wordsOf}
+use Rattle.words.specs.Words.{renumberWord, chainWord, sizeWord, IsHelp, IsWord, AsksChain, AsksSize, AsksNothing, wordsOf}
 use Rattle.words.proofs.Word.{the-type}
 
 -- as many words as nothing has
-pub wrong-count : (ws : List (List ℕ)) → 0 < length ws → (length ws ≡ 1 → ⊥) → (length ws ≡ 3 → ⊥) → AsksNothing ws
-wrong-count ws some one three =
+pub wrong-count : (ws : List (List ℕ)) → 3 < length ws → AsksNothing ws
+wrong-count ws many =
     record {
       some = λ e. omega (arith, ap length e);
-      renumber = λ e. one (ap length e);
-      help = λ a. one (ap length (a .all));
-      chain = λ from to a. three (ap length (a .all));
+      renumber = λ e. omega (arith, ap length e);
+      help = λ a. omega (arith, ap length (a .all));
+      chain = λ from to a. omega (arith, ap length (a .all));
+      size = λ n a. omega (arith, ap length (a .all));
     }
 
 -- one word
@@ -35,6 +36,18 @@ wrong-alone w a b =
       renumber = λ e. a (ap (λ ws. getD ws 0 []) e);
       help = λ a. b (subst⁻¹ IsHelp (ap (λ ws. getD ws 0 []) (a .all)) (a .is-help));
       chain = λ from to a. omega (arith, ap length (a .all));
+      size = λ n a. omega (arith, ap length (a .all));
+    }
+
+-- two words
+pub wrong-two : (w x : List ℕ) → (w ≡ sizeWord → (n : ℕ) → Says x n → ⊥) → AsksNothing (w ∷ x ∷ [])
+wrong-two w x none =
+    record {
+      some = λ e. omega (arith, ap length e);
+      renumber = λ e. omega (arith, ap length e);
+      help = λ a. omega (arith, ap length (a .all));
+      chain = λ from to a. omega (arith, ap length (a .all));
+      size = λ n a. none (ap (λ ws. getD ws 0 []) (a .all)) n (subst⁻¹ (λ s. Says s n) (ap (λ ws. getD ws 1 []) (a .all)) (a .says));
     }
 
 -- three words
@@ -47,41 +60,62 @@ wrong-three w x y none =
       chain = λ from to a.
           none (ap (λ ws. getD ws 0 []) (a .all)) from to (subst⁻¹ (λ s. Says s from) (ap (λ ws. getD ws 1 []) (a .all)) (a .says-from))
           (subst⁻¹ (λ s. Says s to) (ap (λ ws. getD ws 2 []) (a .all)) (a .says-to));
+      size = λ n a. omega (arith, ap length (a .all));
     }
 
--- no word for help is as long as "chain" or "renumber"
-pub help-size : {w : List ℕ} → IsHelp w → (length w ≡ 5 → ⊥) × (length w ≡ 8 → ⊥)
-help-size (inl e) = (λ n. omega (arith, ap length e), λ n. omega (arith, ap length e))
-help-size (inr (inl e)) = (λ n. omega (arith, ap length e), λ n. omega (arith, ap length e))
-help-size (inr (inr e)) = (λ n. omega (arith, ap length e), λ n. omega (arith, ap length e))
+-- no word for help starts as "chain", "size" or "renumber" does
+pub help-start : {w : List ℕ} → IsHelp w → (getD w 0 0 ≡ 99 → ⊥) × (getD w 0 0 ≡ 115 → ⊥) × (getD w 0 0 ≡ 114 → ⊥)
+help-start (inl e) = let s = ap (λ l. getD l 0 0) e in (λ n. omega arith, λ n. omega arith, λ n. omega arith)
+help-start (inr (inl e)) = let s = ap (λ l. getD l 0 0) e in (λ n. omega arith, λ n. omega arith, λ n. omega arith)
+help-start (inr (inr e)) = let s = ap (λ l. getD l 0 0) e in (λ n. omega arith, λ n. omega arith, λ n. omega arith)
 
 pub chain-alone : (w : List ℕ) → w ≡ chainWord → AsksNothing (w ∷ [])
-chain-alone w h = let size = ap length h in wrong-alone w (λ e. omega (arith, ap length e)) (λ k. help-size k .0 size)
+chain-alone w h = wrong-alone w (λ e. omega (arith, ap length h, ap length e)) (λ k. help-start k .0 (ap (λ l. getD l 0 0) h))
+
+pub size-alone : (w : List ℕ) → w ≡ sizeWord → AsksNothing (w ∷ [])
+size-alone w h = wrong-alone w (λ e. omega (arith, ap length h, ap length e)) (λ k. help-start k .1 (ap (λ l. getD l 0 0) h))
 
 -- a word that is no "chain"
-pub not-chain : (v : word.Word) → OneOf (0 ∷ 2 ∷ 3 ∷ []) (tagOf the-type v) → (w : List ℕ) → IsWord w v → w ≡ chainWord → ⊥
+pub not-chain : (v : word.Word) → OneOf (0 ∷ 2 ∷ 3 ∷ 4 ∷ []) (tagOf the-type v) → (w : List ℕ) → IsWord w v → w ≡ chainWord → ⊥
 not-chain is.Renumber o w h e = omega (arith, ap length h, ap length e)
-not-chain is.Chain o w h e = absurd (miss (0 ∷ 2 ∷ 3 ∷ []) 1 tt o)
-not-chain is.Help o w h e = help-size h .0 (ap length e)
+not-chain is.Chain o w h e = absurd (miss (0 ∷ 2 ∷ 3 ∷ 4 ∷ []) 1 tt o)
+not-chain is.Size o w h e = omega (arith, ap length h, ap length e)
+not-chain is.Help o w h e = help-start h .0 (ap (λ l. getD l 0 0) e)
 not-chain is.Other o w h e = h .1 e
+
+-- a word that is no "size"
+pub not-size : (v : word.Word) → OneOf (0 ∷ 1 ∷ 3 ∷ 4 ∷ []) (tagOf the-type v) → (w : List ℕ) → IsWord w v → w ≡ sizeWord → ⊥
+not-size is.Renumber o w h e = omega (arith, ap length h, ap length e)
+not-size is.Chain o w h e = omega (arith, ap length h, ap length e)
+not-size is.Size o w h e = absurd (miss (0 ∷ 1 ∷ 3 ∷ 4 ∷ []) 2 tt o)
+not-size is.Help o w h e = help-start h .1 (ap (λ l. getD l 0 0) e)
+not-size is.Other o w h e = h .2 e
+
+-- what a word says, by what was made of it
+unsaid : {x : List ℕ} {v : parsed.Parsed} → v ≡ No → IsParsed x v → (n : ℕ) → Says x n → ⊥
+unsaid {x} e h = subst (λ p. IsParsed x p) e h
+
+said : {x : List ℕ} {v : parsed.Parsed} {n : ℕ} → v ≡ Name n → IsParsed x v → Says x n
+said {x} e h = subst (λ p. IsParsed x p) e h
+
+-- "size" with a word
+module _ {w x : List ℕ} {v : parsed.Parsed} where
+  pub no-number : v ≡ No → IsParsed x v → AsksNothing (w ∷ x ∷ [])
+  no-number e h = wrong-two w x (λ _ n s. unsaid e h n s)
+
+  pub number : {n : ℕ} → w ≡ sizeWord → v ≡ Name n → IsParsed x v → AsksSize (w ∷ x ∷ []) n
+  number e p s = record { number = x; all = ap (λ l. l ∷ x ∷ []) e; says = said p s }
 
 -- "chain" with two words
 module _ {w x y : List ℕ} where
   pub no-from : {v : parsed.Parsed} → v ≡ No → IsParsed x v → AsksNothing (w ∷ x ∷ y ∷ [])
-  no-from e h = let unsaid = subst (λ p. IsParsed x p) e h in wrong-three w x y (λ _ from to s t. unsaid from s)
+  no-from e h = wrong-three w x y (λ _ from to s t. unsaid e h from s)
 
   pub no-to : {v : parsed.Parsed} → v ≡ No → IsParsed y v → AsksNothing (w ∷ x ∷ y ∷ [])
-  no-to e h = let unsaid = subst (λ p. IsParsed y p) e h in wrong-three w x y (λ _ from to s t. unsaid to t)
+  no-to e h = wrong-three w x y (λ _ from to s t. unsaid e h to t)
 
   pub both : {u v : parsed.Parsed} {a b : ℕ} → w ≡ chainWord → u ≡ Name a → v ≡ Name b → IsParsed x u → IsParsed y v → AsksChain (w ∷ x ∷ y ∷ []) a b
-  both e p q s t =
-      record {
-        first = x;
-        last = y;
-        all = ap (λ l. l ∷ x ∷ y ∷ []) e;
-        says-from = subst (λ p. IsParsed x p) p s;
-        says-to = subst (λ p. IsParsed y p) q t;
-      }
+  both e p q s t = record { first = x; last = y; all = ap (λ l. l ∷ x ∷ y ∷ []) e; says-from = said p s; says-to = said q t }
 
 -- a word, by what is known of it
 pub by-word : (w : List ℕ) {u v : word.Word} → u ≡ v → IsWord w u → IsWord w v
@@ -96,7 +130,5 @@ module _ (count : ℕ) (a b d : List ℕ) where
   pub no-words : count ≤ 1 → wordsOf count a b d ≡ []
   no-words h = let e : count - 1 ≡ 0 = omega arith in rw e
 
-  pub other-words : 1 < count → (count ≡ 2 → ⊥) → (count ≡ 4 → ⊥) → AsksNothing (wordsOf count a b d)
-  other-words h one three =
-      let size = length-take (count - 1) (a ∷ b ∷ d ∷ [] ∷ []) in
-      wrong-count (wordsOf count a b d) (omega arith) (λ e. one (omega arith)) (λ e. three (omega arith))
+  pub other-words : 1 < count → (count ≡ 2 → ⊥) → (count ≡ 3 → ⊥) → (count ≡ 4 → ⊥) → AsksNothing (wordsOf count a b d)
+  other-words h one two three = wrong-count (wordsOf count a b d) (omega (arith, length-take (count - 1) (a ∷ b ∷ d ∷ [] ∷ [])))

@@ -16,6 +16,7 @@ abbrev pub readsBundle : Order → Bool
 readsBundle order.Report = true
 readsBundle order.Renumber = true
 readsBundle (order.Chain from to) = true
+readsBundle (order.Size definition) = true
 readsBundle order.Help = false
 readsBundle order.Wrong = false
 
@@ -36,5 +37,6 @@ abbrev pub messageOf : Order → Input → Bool → Message
 messageOf order.Report i written = failureOf i written
 messageOf order.Renumber i written = failureOf i written
 messageOf (order.Chain from to) i written = failureOf i written
+messageOf (order.Size definition) i written = failureOf i written
 messageOf order.Help i written = failureOf i written
 messageOf order.Wrong i written = message.Arguments

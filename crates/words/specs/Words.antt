@@ -8,14 +8,17 @@ use Rattle.decimal.specs.Decimal.{Says}
 use Rattle.words.specs.declared.Word as word
 use Rattle.words.specs.declared.Word.the-variants as is
 use Rattle.words.specs.declared.Order.{Order}
-use Rattle.words.specs.declared.Order.the-variants.{Report, Renumber, Chain, Help, Wrong}
+use Rattle.words.specs.declared.Order.the-variants.{Report, Renumber, Chain, Size, Help, Wrong}
 
--- the words, in ASCII: renumber, chain, help, --help, -h
+-- the words, in ASCII: renumber, chain, size, help, --help, -h
 abbrev pub renumberWord : List ℕ
 renumberWord = 114 ∷ 101 ∷ 110 ∷ 117 ∷ 109 ∷ 98 ∷ 101 ∷ 114 ∷ []
 
 abbrev pub chainWord : List ℕ
 chainWord = 99 ∷ 104 ∷ 97 ∷ 105 ∷ 110 ∷ []
+
+abbrev pub sizeWord : List ℕ
+sizeWord = 115 ∷ 105 ∷ 122 ∷ 101 ∷ []
 
 abbrev pub helpWord : List ℕ
 helpWord = 104 ∷ 101 ∷ 108 ∷ 112 ∷ []
@@ -34,8 +37,9 @@ IsHelp w = (w ≡ helpWord) ⊎ (w ≡ longHelpWord) ⊎ (w ≡ shortHelpWord)
 abbrev pub IsWord : List ℕ → word.Word → Type 0
 IsWord w is.Renumber = w ≡ renumberWord
 IsWord w is.Chain = w ≡ chainWord
+IsWord w is.Size = w ≡ sizeWord
 IsWord w is.Help = IsHelp w
-IsWord w is.Other = (w ≡ renumberWord → ⊥) × (w ≡ chainWord → ⊥) × (IsHelp w → ⊥)
+IsWord w is.Other = (w ≡ renumberWord → ⊥) × (w ≡ chainWord → ⊥) × (w ≡ sizeWord → ⊥) × (IsHelp w → ⊥)
 
 -- "chain" and two words that say names
 pub record AsksChain (words : List (List ℕ)) (from to : ℕ) : Type 0 where
@@ -44,6 +48,12 @@ pub record AsksChain (words : List (List ℕ)) (from to : ℕ) : Type 0 where
   pub all : words ≡ chainWord ∷ first ∷ last ∷ []
   pub says-from : Says first from
   pub says-to : Says last to
+
+-- "size" and a word that says a number
+pub record AsksSize (words : List (List ℕ)) (definition : ℕ) : Type 0 where
+  pub number : List ℕ
+  pub all : words ≡ sizeWord ∷ number ∷ []
+  pub says : Says number definition
 
 -- one word for help and no other
 pub record AsksHelp (words : List (List ℕ)) : Type 0 where
@@ -57,12 +67,14 @@ pub record AsksNothing (words : List (List ℕ)) : Type 0 where
   pub renumber : words ≡ renumberWord ∷ [] → ⊥
   pub help : AsksHelp words → ⊥
   pub chain : (from to : ℕ) → AsksChain words from to → ⊥
+  pub size : (definition : ℕ) → AsksSize words definition → ⊥
 
 -- the words ask for this
 abbrev pub Asks : List (List ℕ) → Order → Type 0
 Asks words Report = words ≡ []
 Asks words Renumber = words ≡ renumberWord ∷ []
 Asks words (Chain from to) = AsksChain words from to
+Asks words (Size definition) = AsksSize words definition
 Asks words Help = AsksHelp words
 Asks words Wrong = AsksNothing words
 

@@ -11,6 +11,7 @@ ghost use Rattle.words.specs.Words.{IsWord, Asks, AsksOnly, wordsOf};
 enum Word {
     Renumber,
     Chain,
+    Size,
     Help,
     Other,
 }
@@ -20,6 +21,7 @@ pub enum Order {
     Report,
     Renumber,
     Chain(u16, u16),
+    Size(u16),
     Help,
     Wrong,
 }
@@ -33,6 +35,9 @@ fn word_of(word: &[u8]) -> Word
     }
     if check::same(word, b"chain") {
         return Word::Chain;
+    }
+    if check::same(word, b"size") {
+        return Word::Size;
     }
     if check::same(word, b"help") {
         return Word::Help;
@@ -53,9 +58,23 @@ fn alone(word: Word) -> Order
     match word {
         Word::Renumber => Order::Renumber,
         Word::Chain => Order::Wrong,
+        Word::Size => Order::Wrong,
         Word::Help => Order::Help,
         Word::Other => Order::Wrong,
     }
+}
+
+// What a word asks for with one other behind it.
+fn ahead(word: Word, number: Parsed) -> Order
+    ensures { λ r. ⌜ ((w x : List ℕ) → IsWord w word → IsParsed x number → Asks (w ∷ x ∷ []) r) ⌝ }
+{
+    let Word::Size = word else {
+        return Order::Wrong;
+    };
+    let Parsed::Name(definition) = number else {
+        return Order::Wrong;
+    };
+    Order::Size(definition)
 }
 
 // What a word asks for with two others behind it.
@@ -84,6 +103,10 @@ pub fn order_of(count: usize, first: &[u8], second: &[u8], third: &[u8]) -> Orde
     }
     if count == 2 {
         return alone(word_of(first));
+    }
+    if count == 3 {
+        let number = decimal::parse_name(second);
+        return ahead(word_of(first), number);
     }
     if count == 4 {
         let from = decimal::parse_name(second);
@@ -122,6 +145,7 @@ pub fn reads_bundle(order: Order) -> bool
         Order::Report => true,
         Order::Renumber => true,
         Order::Chain(_, _) => true,
+        Order::Size(_) => true,
         Order::Help => false,
         Order::Wrong => false,
     }

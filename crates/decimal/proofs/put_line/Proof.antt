@@ -3,14 +3,14 @@ use Rattle.decimal.proofs.put_line.Statement.{statement}
 use Rattle.decimal.proofs.put_line.Tie as tie
 use native.Mathlib.Omega.{arith}
 use Rattle.decimal.specs.Decimal.{lines}
-use Rattle.decimal.proofs.DecimalLaws.{name-size}
+use Rattle.decimal.proofs.DecimalLaws.{line-length}
 use Rattle.decimal.proofs.Writing.{writes-then, writes-end}
 
 put-decimal-requires : tie.Need-put-decimal-requires
-put-decimal-requires c κs = omega (arith, name-size (c .before .before .args .n) (omega arith), c .before .before .pre)
+put-decimal-requires c κs = omega (arith, line-length (c .before .before .args .n), c .before .before .pre)
 
 put-requires : tie.Need-put-requires
-put-requires c κs = omega (arith, name-size (c .before .before .before .before .before .before .args .n) (omega arith), c .before .before .before .before .before .before .pre, writes-end (c .before .before .before .put-decimal .ensures) (omega (arith, c .before .before .before .before .before .before .pre)), c .before .before .before .put-decimal .kept)
+put-requires c κs = omega (arith, line-length (c .before .before .before .before .before .before .args .n), c .before .before .before .before .before .before .pre, writes-end (c .before .before .before .put-decimal .ensures) (omega (arith, c .before .before .before .before .before .before .pre)), c .before .before .before .put-decimal .kept)
 
 same-length : tie.Need-same-length
 same-length c = search needs

@@ -1,7 +1,10 @@
 use borrow.Author.Needs.{needs}
 use Rattle.layout.proofs.run.Statement.{statement}
 use Rattle.layout.proofs.run.Tie as tie
+use Prim.Native.Nat.{ℕ}
+use native.Mathlib.Omega.{arith}
 use mathlib.Core.Path.{sym}
+use lib.ListN.{length-replicate}
 use lib.Seq.{length-take-le}
 
 input-buffer-requires : tie.Need-input-buffer-requires
@@ -13,9 +16,6 @@ slice-aggregate-read-for c = search needs
 read-for-requires : tie.Need-read-for-requires
 read-for-requires c κs = search needs
 
-large-buffer-requires : tie.Need-large-buffer-requires
-large-buffer-requires c κs = search needs
-
 slice-aggregate-output : tie.Need-slice-aggregate-output
 slice-aggregate-output c = search needs
 
@@ -23,7 +23,7 @@ slice-aggregate-output-2 : tie.Need-slice-aggregate-output-2
 slice-aggregate-output-2 c = search needs
 
 output-requires : tie.Need-output-requires
-output-requires c κs = search needs
+output-requires c κs = (c .before .before .before .read-for .ensures, omega (arith, length-replicate {A = ℕ} 98304 0))
 
 array-share-prefix-out : tie.Need-array-share-prefix-out
 array-share-prefix-out c = search needs
@@ -47,7 +47,6 @@ run-spec =
     input-buffer-requires
     slice-aggregate-read-for
     read-for-requires
-    large-buffer-requires
     slice-aggregate-output
     slice-aggregate-output-2
     output-requires

@@ -1,6 +1,6 @@
 use borrow.Author.Needs.{needs}
-use Rattle.layout.proofs.respond.Statement.{statement}
-use Rattle.layout.proofs.respond.Tie as tie
+use Rattle.responses.proofs.respond.Statement.{statement}
+use Rattle.responses.proofs.respond.Tie as tie
 
 report-requires : tie.Need-report-requires
 report-requires c κs = search needs

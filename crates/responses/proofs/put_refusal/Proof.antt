@@ -1,7 +1,7 @@
 use borrow.Author.Needs.{needs}
-use Rattle.layout.proofs.put_refusal.Statement.{statement}
-use Rattle.layout.proofs.put_refusal.Tie as tie
-use Rattle.layout.proofs.Responding.{holds-refusal}
+use Rattle.responses.proofs.put_refusal.Statement.{statement}
+use Rattle.responses.proofs.put_refusal.Tie as tie
+use Rattle.responses.proofs.Responding.{holds-refusal}
 
 slice-write-out : tie.Need-slice-write-out
 slice-write-out c = search needs

@@ -1,6 +1,6 @@
 use borrow.Author.Needs.{needs}
-use Rattle.layout.proofs.respond_renumbered.Statement.{statement}
-use Rattle.layout.proofs.respond_renumbered.Tie as tie
+use Rattle.responses.proofs.respond_renumbered.Statement.{statement}
+use Rattle.responses.proofs.respond_renumbered.Tie as tie
 
 renumber-requires : tie.Need-renumber-requires
 renumber-requires c κs = search needs
