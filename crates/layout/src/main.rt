@@ -10,7 +10,7 @@ ghost use Prim.Native.Nat.{_≤_};
 ghost use lib.ListN.{length};
 ghost use Rattle.layout.specs.Reading.{TurnWithin, ReadInto};
 ghost use Rattle.responses.specs.Response.{Holds};
-ghost use Rattle.layout.specs.Output.{outputOf};
+ghost use Rattle.layout.specs.Response.{outputOf};
 
 // Room for the longest bundle and one byte more.
 fn input_buffer() -> [u8; bundle::BYTE_LIMIT + 1]

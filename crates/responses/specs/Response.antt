@@ -1,4 +1,4 @@
--- What the program writes.
+-- What the program writes for an order and a bundle.
 use Prim.Native.Nat.{ℕ, _≤_}
 use mathlib.Core.List.{List, [], _∷_, _++_}
 use mathlib.Core.Path.{_≡_}

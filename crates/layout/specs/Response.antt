@@ -1,4 +1,4 @@
--- What goes to standard output.
+-- What the program writes for its words.
 use Prim.Native.Nat.{ℕ}
 use mathlib.Core.List.{List, []}
 use lib.ListN.{take}
