@@ -17,6 +17,7 @@ use layout_text::sizes::Sizes;
 use layout_text::tree::{Bundle, BYTE_LIMIT};
 use layout_text::words::cut;
 use std::io::{self, Write};
+use std::os::unix::fs::MetadataExt;
 use std::process::ExitCode;
 
 const USAGE: &str = "usage:
@@ -108,7 +109,9 @@ fn main() -> ExitCode {
     };
     let done = arguments(words, allowed).and_then(|found| match found.help {
         true => run_help(&found),
-        false => one_standard_input(&found).and_then(|()| run(&found)),
+        false => one_standard_input(&found)
+            .and_then(|()| output_apart(&found))
+            .and_then(|()| run(&found)),
     });
     match done {
         Ok(code) => ExitCode::from(code),
@@ -216,6 +219,29 @@ fn one_standard_input(arguments: &Arguments) -> Result<(), Failure> {
     match own.iter().filter(|path| **path == Some("-")).count() > 1 {
         true => Err(("standard input is asked for twice".to_string(), FAILED)),
         false => Ok(()),
+    }
+}
+
+/// A file that is read is not written over.
+fn output_apart(arguments: &Arguments) -> Result<(), Failure> {
+    let Some(out) = arguments.out.as_deref() else {
+        return Ok(());
+    };
+    let read = [&arguments.file, &arguments.names, &arguments.report];
+    match read.iter().any(|path| same_file(path.as_deref(), out)) {
+        true => Err((
+            format!("{}: this file is read; write to another", cut(out)),
+            FAILED,
+        )),
+        false => Ok(()),
+    }
+}
+
+fn same_file(path: Option<&str>, other: &str) -> bool {
+    let place = |path: &str| std::fs::metadata(path).map(|found| (found.dev(), found.ino()));
+    match (path.map(place), place(other)) {
+        (Some(Ok(one)), Ok(another)) => one == another,
+        _ => false,
     }
 }
 
@@ -390,7 +416,12 @@ fn run_sizes(arguments: &Arguments) -> Result<u8, Failure> {
     let failure = |message: String| (message, FAILED);
     if let Err(refusal) = layout::accept(&bytes) {
         let report = Report::Refused(refusal.number());
-        for part in explain(&bytes, &report, &source).map_err(failure)? {
+        let parts = explain(&bytes, &report, &source).map_err(failure)?;
+        // Words are no picture, so they go to standard error then.
+        if arguments.svg {
+            return Err((parts.collect(), REFUSED));
+        }
+        for part in parts {
             output(None, part.as_bytes())?;
         }
         return Ok(REFUSED);
@@ -423,9 +454,11 @@ fn accepted(bytes: &[u8]) -> Result<Bundle, String> {
 }
 
 fn undefined(arguments: &Arguments, name: &str, source: &Source) -> Failure {
-    let hint = match source.names.is_empty() && !name.starts_with('#') {
-        true => "; no words are known for its names: write #17 for name 17, or give --names",
-        false => "",
+    let digits = !name.is_empty() && name.bytes().all(|byte| byte.is_ascii_digit());
+    let hint = match (source.names.is_empty() && !name.starts_with('#'), digits) {
+        (true, _) => "; no words are known for its names: write #17 for name 17, or give --names",
+        (false, true) => "; write #17 for name 17",
+        (false, false) => "",
     };
     let (place, name) = (label(arguments.file.as_deref()), cut(name));
     (format!("{place}: `{name}` has no definition{hint}"), FAILED)
