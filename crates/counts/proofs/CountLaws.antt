@@ -76,7 +76,7 @@ module _ (s : List ℕ) (at w value i : ℕ) (r : Reading s at w value i) (h : 0
         below = less;
       }
 
--- the first number that a signed literal has no room for
+-- the first number that is negative in a signed literal
 pub limit-5 : (k : ℕ) → k ≡ 5 → 9223372036854775808 ≡ signedLimit k
 limit-5 k e = rw e
 
@@ -89,11 +89,8 @@ limit-7 k e = rw e
 pub limit-8 : (k : ℕ) → k ≡ 8 → 128 ≡ signedLimit k
 limit-8 k e = rw e
 
-pub limit-other : (k : ℕ) → 8 < k → 1 ≡ signedLimit k
-limit-other k h = rw (past (k - 1) (omega arith))
-  where
-    past : (i : ℕ) → 8 ≤ i → getD widths i 0 ≡ 0
-    past i h = let e : i ≡ suc (suc (suc (suc (suc (suc (suc (suc (i - 8)))))))) = omega arith in rw e refl
+pub limit-other : (k : ℕ) → 8 < k → 0 ≡ signedLimit k
+limit-other k h = let e : k - 5 ≡ suc (suc (suc (suc (k - 9)))) = omega arith in rw e refl
 
 -- a literal
 pub count-unsigned : (k v : ℕ) → k ≤ 4 → countMeant (Of v) ≡ literalCount k v

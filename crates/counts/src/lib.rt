@@ -26,7 +26,7 @@ pub fn number_at(s: &[u8], at: usize, w: usize) -> u64
     value
 }
 
-// The first number that a literal of this kind has no room for, where the kind is signed.
+// The first stored number that is negative in a literal of this kind, which is signed.
 fn signed_limit(kind: u8) -> u64
     requires { ⌜ 4 < kind ⌝ }
     ensures { λ r. ⌜ r ≡ signedLimit kind ⌝ }
@@ -40,7 +40,7 @@ fn signed_limit(kind: u8) -> u64
     if kind == 7 {
         return 32768;
     }
-    if kind == 8 { 128 } else { 1 }
+    if kind == 8 { 128 } else { 0 }
 }
 
 // The value of a literal, where it is not negative.

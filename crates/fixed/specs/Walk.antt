@@ -26,10 +26,10 @@ membersOf s kept k packed ms so = measureAll (joinOf k packed) ms so (known s ke
 unfoldable pub groupOf : List ℕ → List ℕ → ℕ → Group → meaning.Extent
 groupOf s kept k g = closeOf k (g .attributes) (membersOf s kept k (g .attributes .packed) (g .members) (sized 0 1))
 
--- r is the extent e of what was read, with a size up to `most`, and where that ended
-pub record IsRead (most : ℕ) (e : meaning.Extent) (end : Step) (r : Measured) : Type 0 where
+-- r is the extent e of what was read, with a size up to `bound`, and where that ended
+pub record IsRead (bound : ℕ) (e : meaning.Extent) (end : Step) (r : Measured) : Type 0 where
   pub is : extentMeant (r .extent) ≡ e
-  pub fits : Fits most (r .extent)
+  pub fits : Fits bound (r .extent)
   pub ended : Next (r .end) ≡ end
 
 -- the answer r for a type, members, or a group of them that were read as x

@@ -30,7 +30,7 @@ use Rattle.extents.specs.Meant as meant
 use Rattle.extents.specs.Meant.{extentMeant}
 use Rattle.fixed.specs.Kept.{keptAs, keptAt, Sound, known}
 use Rattle.fixed.specs.Walk.{partOf}
-use Rattle.fixed_definitions.specs.Keeping.{sizeKept, alignmentKept, Known, Keeps, Ready, Kept}
+use Rattle.fixed_definitions.specs.Keeping.{sizeKept, alignmentKept, Known, KeptExtents, Ready, Kept}
 
 -- An extent and the two numbers as which it is kept.
 
@@ -65,7 +65,7 @@ kept-there (Unsized k) f = omega arith
 
 -- What is kept.
 
-module _ {s kept : List ℕ} (k : Keeps s kept) where
+module _ {s kept : List ℕ} (k : KeptExtents s kept) where
   -- an extent is kept where the alignment is not 0
   pub keeps-known : (i : ℕ) → i < 256 → 0 < getD kept (256 + i) 0 → Known s kept i
   keeps-known i h l = ⊎-elim (λ e. absurd (omega (arith, e .1))) (λ x. x) (k .each i h)
@@ -79,7 +79,7 @@ module _ {s kept : List ℕ} (k : Keeps s kept) where
       nothing i p = subst (λ x. meant.Part (keptAs x (getD kept (256 + i) 0))) (sym p) (omega arith)
 
 -- nothing is known yet
-pub keeps-start : (s : List ℕ) → Keeps s (replicate 512 0)
+pub keeps-start : (s : List ℕ) → KeptExtents s (replicate 512 0)
 keeps-start s = record { size = refl; each = λ i h. inl (getD-zeros 512 i, getD-zeros 512 (256 + i)); onward = λ i j h k m. absurd (omega (arith, k .there, getD-zeros 512 (256 + i))) }
 
 -- a type whose names lead to definitions with kept extents
@@ -144,7 +144,7 @@ module _ {s : List ℕ} {n : ℕ} {places : List ℕ} (tb : Table s n places) {i
 
   -- all of them were gone through, and the extent e by what is kept now is that of the definition
   module _ {end : ℕ} {after : List ℕ} {at : ℕ} (w : Measuring s i left end kept after at) (past : end ≤ at) where
-    pub measuring-keeps : Keeps s after
+    pub measuring-keeps : KeptExtents s after
     measuring-keeps = w .ready .keeps
 
     nothing-left : leadTo s (w .parts) ≡ []
@@ -310,7 +310,7 @@ module _ {s : List ℕ} {total : ℕ} {places : List ℕ} (tb : Table s total pl
       })
 
 -- in a bundle in which nothing circles, as many steps as there are definitions are enough
-pub ready-definition : {s : List ℕ} {n : ℕ} {places : List ℕ} → Table s n places → circles (bundleOf s) ≡ false → {kept : List ℕ} → Keeps s kept → (i : ℕ) → i < n → Ready s n (i ∷ []) kept
+pub ready-definition : {s : List ℕ} {n : ℕ} {places : List ℕ} → Table s n places → circles (bundleOf s) ≡ false → {kept : List ℕ} → KeptExtents s kept → (i : ℕ) → i < n → Ready s n (i ∷ []) kept
 ready-definition {s} tb c k i h = record {
   ends = c;
   within = λ j m.

@@ -29,7 +29,7 @@ pub record Known (s kept : List ℕ) (i : ℕ) : Type 0 where
   pub fits : Part (keptAt kept i)
 
 -- of each definition its extent, or 0 where it is not known yet; where it is, so are those of the definitions to which it leads
-pub record Keeps (s kept : List ℕ) : Type 0 where
+pub record KeptExtents (s kept : List ℕ) : Type 0 where
   pub size : length kept ≡ 512
   pub each : (i : ℕ) → i < 256 → ((getD kept i 0 ≡ 0) × (getD kept (256 + i) 0 ≡ 0)) ⊎ Known s kept i
   pub onward : (i j : ℕ) → i < 256 → Known s kept i → List·Memᴰ j (leadsTo (bundleOf s) i) → Known s kept j
@@ -38,10 +38,10 @@ pub record Keeps (s kept : List ℕ) : Type 0 where
 pub record Ready (s : List ℕ) (left : ℕ) (ds kept : List ℕ) : Type 0 where
   pub ends : circles (bundleOf s) ≡ false
   pub within : (i : ℕ) → List·Memᴰ i ds → settled (bundleOf s) left i ≡ true
-  pub keeps : Keeps s kept
+  pub keeps : KeptExtents s kept
 
 -- the extents of the definitions ds are kept now, and those that were are still
 pub record Kept (s ds before after : List ℕ) : Type 0 where
-  pub keeps : Keeps s after
+  pub keeps : KeptExtents s after
   pub now : (i : ℕ) → List·Memᴰ i ds → Known s after i
   pub still : (i : ℕ) → i < 256 → Known s before i → Known s after i

@@ -7,7 +7,7 @@ ghost use Prim.Native.Nat.{_<_};
 ghost use Rattle.meaning.specs.Circle.{circles};
 ghost use Rattle.bundle.specs.Definitions.{bundleOf, Table};
 ghost use Rattle.extents.specs.Meant.{Part};
-ghost use Rattle.fixed_definitions.specs.Keeping.{sizeKept, alignmentKept, Keeps, Ready, Kept};
+ghost use Rattle.fixed_definitions.specs.Keeping.{sizeKept, alignmentKept, KeptExtents, Ready, Kept};
 
 // How an extent is kept: a size has 16 added, so that refusals stay apart from it, and no alignment is 0.
 fn size_kept(e: Extent) -> u64
@@ -29,7 +29,7 @@ fn alignment_kept(e: Extent) -> u64
     }
 }
 
-// Keeps the extents of definition `i` and of those to which it leads, these first. `left` definitions may still be gone through, one
+// KeptExtents the extents of definition `i` and of those to which it leads, these first. `left` definitions may still be gone through, one
 // inside another.
 pub fn measure_definition(
     s: &[u8],

@@ -21,9 +21,9 @@ use Rattle.fixed_laws.specs.Statements.{Unfixed, HasLayout}
 use Rattle.fixed_laws.proofs.Decided.{fixed, unfixed, one-layout, one-number}
 use Rattle.fixed_laws.proofs.Least.{refusal-number}
 use Rattle.offsets.specs.declared.Fixed.{Fixed}
-use Rattle.offsets.specs.declared.Fixed.the-variants.{Sized, Refused as Turned}
+use Rattle.offsets.specs.declared.Fixed.the-variants as code
 use Rattle.offsets.specs.Placed.{answerMeant, Extents, FixedCall}
-use Rattle.fixed_demand.specs.Demand.{Says, Laid, FixedDemand}
+use Rattle.fixed_demand.specs.Demand.{Says, GetsLayout, FixedDemand}
 
 -- a refusal is one of 1 to 12
 pub fixed-number : (i : ℕ) (s : List ℕ) (lent k : ℕ) → answerOf (placing i s) lent ≡ refusedWith k → (1 ≤ k) × (k ≤ 12)
@@ -54,22 +54,25 @@ module _ (i : ℕ) (s : List ℕ) (b : Bundle) (k : Keeps s b) where
   )
 
   -- it has an extent, or it is refused
-  decided : ((n : ℕ) × ((a : ℕ) × (definitionExtent b i ≡ sized n a))) ⊎ ((j : ℕ) × (definitionExtent b i ≡ unsized j))
+  abbrev Decided : Type 0
+  Decided = ((n : ℕ) × ((a : ℕ) × (definitionExtent b i ≡ sized n a))) ⊎ ((j : ℕ) × (definitionExtent b i ≡ unsized j))
+
+  decided : Decided
   decided = go (definitionExtent b i) refl
     where
-      go : (x : Extent) → definitionExtent b i ≡ x → ((n : ℕ) × ((a : ℕ) × (definitionExtent b i ≡ sized n a))) ⊎ ((j : ℕ) × (definitionExtent b i ≡ unsized j))
+      go : (x : Extent) → definitionExtent b i ≡ x → Decided
       go (sized n a) e = inl (n, (a, e))
       go (unsized j) e = inr (j, e)
 
   says : (n a : ℕ) → sizing i s ≡ result (n ∷ a ∷ []) → (r : Fixed) → Extents (sizing i s) r → Says r n a
-  says n a e (Sized m c count) x = let z : result (m ∷ c ∷ []) ≡ result (n ∷ a ∷ []) = sym x ∙ e in (cc, cc)
-  says n a e (Turned j) x = tt
+  says n a e (code.Sized m c count) x = let z : result (m ∷ c ∷ []) ≡ result (n ∷ a ∷ []) = sym x ∙ e in (cc, cc)
+  says n a e (code.Refused j) x = tt
 
   module _ {before after : List ℕ} {r : Fixed} (d : FixedCall i s before after r) where
-    every : ((j : ℕ) → Unfixed b (typeAt b i) j → ⊥) → Laid i b before after r
+    every : ((j : ℕ) → Unfixed b (typeAt b i) j → ⊥) → GetsLayout i b before after r
     every none = go decided
       where
-        go : ((n : ℕ) × ((a : ℕ) × (definitionExtent b i ≡ sized n a))) ⊎ ((j : ℕ) × (definitionExtent b i ≡ unsized j)) → Laid i b before after r
+        go : Decided → GetsLayout i b before after r
         go (inl e) = record {
           size = e .0;
           alignment = e .1 .0;
@@ -84,7 +87,7 @@ module _ (i : ℕ) (s : List ℕ) (b : Bundle) (k : Keeps s b) where
     unfolding answerOf
     refused j u = go decided
       where
-        go : ((n : ℕ) × ((a : ℕ) × (definitionExtent b i ≡ sized n a))) ⊎ ((j : ℕ) × (definitionExtent b i ≡ unsized j)) → Refused j before after (answerMeant r)
+        go : Decided → Refused j before after (answerMeant r)
         go (inl e) = absurd (fixed b no-circle i (e .0) (e .1 .0) (e .1 .1) .1 j u)
         go (inr e) =
             let z : e .0 ≡ j = one-number b (typeAt b i) (e .0) j (unfixed b no-circle i (e .0) (e .1)) u in
@@ -93,7 +96,7 @@ module _ (i : ℕ) (s : List ℕ) (b : Bundle) (k : Keeps s b) where
   either : ((j : ℕ) × Unfixed b (typeAt b i) j) ⊎ ((j : ℕ) → Unfixed b (typeAt b i) j → ⊥)
   either = go decided
     where
-      go : ((n : ℕ) × ((a : ℕ) × (definitionExtent b i ≡ sized n a))) ⊎ ((j : ℕ) × (definitionExtent b i ≡ unsized j)) → ((j : ℕ) × Unfixed b (typeAt b i) j) ⊎ ((j : ℕ) → Unfixed b (typeAt b i) j → ⊥)
+      go : Decided → ((j : ℕ) × Unfixed b (typeAt b i) j) ⊎ ((j : ℕ) → Unfixed b (typeAt b i) j → ⊥)
       go (inl e) = inr (fixed b no-circle i (e .0) (e .1 .0) (e .1 .1) .1)
       go (inr e) = inl (e .0, unfixed b no-circle i (e .0) (e .1))
 
@@ -101,7 +104,7 @@ module _ (i : ℕ) (s : List ℕ) (b : Bundle) (k : Keeps s b) where
       → HasLayout b (typeAt b i) m a xs → HasLayout b (typeAt b i) n c ys → (m ≡ n) × ((a ≡ c) × (xs ≡ ys))
   one none m n a c xs ys x y = go decided
     where
-      go : ((n : ℕ) × ((a : ℕ) × (definitionExtent b i ≡ sized n a))) ⊎ ((j : ℕ) × (definitionExtent b i ≡ unsized j)) → (m ≡ n) × ((a ≡ c) × (xs ≡ ys))
+      go : Decided → (m ≡ n) × ((a ≡ c) × (xs ≡ ys))
       go (inl e) =
           let p = one-layout b no-circle i (e .0) (e .1 .0) (e .1 .1) m a xs x in
           let q = one-layout b no-circle i (e .0) (e .1 .0) (e .1 .1) n c ys y in

@@ -11,16 +11,16 @@ use Rattle.refusals.specs.Numbers.{Keeps, Number}
 use Rattle.demands.specs.Demands.{Gets, Refused, Cases}
 use Rattle.fixed_laws.specs.Statements.{Unfixed, HasLayout}
 use Rattle.offsets.specs.declared.Fixed.{Fixed}
-use Rattle.offsets.specs.declared.Fixed.the-variants.{Sized, Refused as Turned}
+use Rattle.offsets.specs.declared.Fixed.the-variants as code
 use Rattle.offsets.specs.Placed.{answerMeant}
 
 -- where the call is accepted, this is its size and alignment
 abbrev pub Says : Fixed → ℕ → ℕ → Type 0
-Says (Sized n a count) size alignment = (n ≡ size) × (a ≡ alignment)
-Says (Turned k) size alignment = Unit {0}
+Says (code.Sized n a count) size alignment = (n ≡ size) × (a ≡ alignment)
+Says (code.Refused k) size alignment = Unit {0}
 
 -- the layout is right for definition i of b, and the call gets it in full where the list holds the offsets, and else is refused with 9
-pub record Laid (i : ℕ) (b : Bundle) (before after : List ℕ) (r : Fixed) : Type 0 where
+pub record GetsLayout (i : ℕ) (b : Bundle) (before after : List ℕ) (r : Fixed) : Type 0 where
   pub size : ℕ
   pub alignment : ℕ
   pub offsets : List ℕ
@@ -31,7 +31,7 @@ pub record Laid (i : ℕ) (b : Bundle) (before after : List ℕ) (r : Fixed) : T
 -- Every definition of a bundle to be accepted that has no reason for 10, 11 or 12 gets its layout, and every other is refused with the one
 -- number; every other call is refused with its one number. No call is refused with another number than 1 to 12.
 pub record FixedDemand (i : ℕ) (s before after : List ℕ) (r : Fixed) : Type 0 where
-  pub every : (b : Bundle) → Keeps s b → ((k : ℕ) → Unfixed b (typeAt b i) k → ⊥) → Laid i b before after r
+  pub every : (b : Bundle) → Keeps s b → ((k : ℕ) → Unfixed b (typeAt b i) k → ⊥) → GetsLayout i b before after r
   pub unfixed : (b : Bundle) → Keeps s b → (k : ℕ) → Unfixed b (typeAt b i) k → Refused k before after (answerMeant r)
   pub other : ((b : Bundle) → Keeps s b → ⊥) → (k : ℕ) × Number s k × Refused k before after (answerMeant r)
   -- there is no third case, and one number and one layout at most

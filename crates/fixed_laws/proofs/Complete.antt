@@ -15,7 +15,8 @@ use Rattle.meaning.specs.Tree.{Attributes, Ty, struct, Member, member, Members,
 use Rattle.fixed_meaning.specs.Extent.{Extent, sized, unsized, largest, bounded, roundUp, offsetOf, withField, withMember, isAlignment, alignmentOf, rounded, closed, repeated, arrayOf}
 use Rattle.fixed_meaning.specs.Fixed.{measure, measureMember, measureAll, measured, extentOf, fieldOffsets}
 use Rattle.fixed_meaning.proofs.Within.{extent-equation}
-use Rattle.fixed_laws.specs.Rule.{IsNext, FieldAt, close, apart, Laid, aPrimitive, aStruct, aUnion, anArray, aReference, FieldsLaid, noField, field, MembersLaid, noMember, oneMore, HasField, first, later}
+use Rattle.fixed_laws.specs.Rule.{IsNext, FieldAt, withoutGap, atMultiple, Laid, aPrimitive, aStruct, aUnion, anArray, aReference, FieldsLaid, noField, field, MembersLaid, noMember, oneMore, HasField, first, later}
+use Rattle.fixed_laws.proofs.Tests.{one-alignment, counted}
 use Rattle.fixed_laws.proofs.Rounding.{round-next, one-next}
 use Rattle.fixed_laws.proofs.Sound.{all-stays, field-stays, member-stays, field-at}
 
@@ -42,10 +43,10 @@ bounded-agrees x e n a h = go (leb x largest)
 
 -- a field lies at one place
 one-field : {packed end a o p : ℕ} → FieldAt packed end a o → FieldAt packed end a p → o ≡ p
-one-field (close e) (close f) = refl
-one-field (close e) (apart n f) = absurd (n e)
-one-field (apart n e) (close f) = absurd (n f)
-one-field {packed} {end} {a} {o} {p} (apart n e) (apart m f) = one-next end a o p e f
+one-field (withoutGap e) (withoutGap f) = refl
+one-field (withoutGap e) (atMultiple n f) = absurd (n e)
+one-field (atMultiple n e) (withoutGap f) = absurd (n f)
+one-field {packed} {end} {a} {o} {p} (atMultiple n e) (atMultiple m f) = one-next end a o p e f
 
 closed-agrees : (at : Attributes) (e : Extent) (end top size alignment : ℕ) → Agrees e end top → alignment ≡ alignmentOf at top → IsNext end alignment size → Agrees (closed at e) size alignment
 unfolding closed rounded
@@ -88,12 +89,12 @@ module _ (b : Bundle) (c : circles b ≡ false) where
     type-agrees (aPrimitive e f) = (sym e, sym (f ∙ e))
     type-agrees (aStruct {a} {ms} {os} {end} {most} {size} {alignment} f e next) =
         let z : max 1 most ≡ most = omega (arith, fields-some f) in
-        closed-agrees a _ end most size alignment (agrees-same (measureAll (withField (a .packed)) ms (sized 0 1) E) refl z (fields-agree f 1 (omega arith))) e next
+        closed-agrees a _ end most size alignment (agrees-same (measureAll (withField (a .packed)) ms (sized 0 1) E) refl z (fields-agree f 1 (omega arith))) (one-alignment a most e) next
     type-agrees (aUnion {a} {ms} {greatest} {most} {size} {alignment} f e next) =
         let z : max 1 most ≡ most = omega (arith, members-some f) in
         let y : max 0 greatest ≡ greatest = omega arith in
-        closed-agrees a _ greatest most size alignment (agrees-same (measureAll withMember ms (sized 0 1) E) y z (members-agree f 0 1 (omega arith))) e next
-    type-agrees (anArray {a} {jagged} {e} {t} {count} {each} {size} {alignment} d p l q) = rw (p, q) (array-agrees jagged count _ each alignment d (type-agrees l))
+        closed-agrees a _ greatest most size alignment (agrees-same (measureAll withMember ms (sized 0 1) E) y z (members-agree f 0 1 (omega arith))) (one-alignment a most e) next
+    type-agrees (anArray {a} {jagged} {e} {t} {count} {each} {size} {alignment} d p l q) = rw (counted p, q) (array-agrees jagged count _ each alignment d (type-agrees l))
     type-agrees (aReference {n} {t} {size} {alignment} p l) = subst (λ x. Agrees x size alignment) (sym (extent-equation b c n ∙ ap (λ o. measured o E) p)) (type-agrees l)
 
     fields-agree : {packed from end most : ℕ} {ms : Members} {os : List ℕ} → FieldsLaid b packed ms from os end most → (so : ℕ) → 1 ≤ so → Agrees (measureAll (withField packed) ms (sized from so) E) end (max so most)

@@ -18,11 +18,12 @@ use Rattle.fixed_laws.specs.Rule.{Laid, HasField, Offsets, ofStruct, ofR
 use Rattle.fixed_laws.specs.Statements.{Reached, BadlyAligned, Varies, jaggedArray, TooLarge, aSize, anOffset, SomeReached, Unfixed, noSuchNumber, ten, eleven, twelve, HasLayout}
 use Rattle.fixed_laws.proofs.Own as own
 use Rattle.fixed_laws.proofs.Own.{AtMost, OffsetOver, here, later, SizeOver, Own}
+use Rattle.fixed_laws.proofs.Tests.{is-count}
 use Rattle.fixed_laws.proofs.Rounding.{round-next}
 use Rattle.fixed_laws.proofs.Refusals.{fixed-parts}
 use Rattle.fixed_laws.proofs.Causes.{refusal-cause}
 use Rattle.fixed_laws.proofs.Least.{refusal-least}
-use Rattle.fixed_laws.proofs.Sound.{no-size, same-size, closed-sized, varying-no, field-at, type-laid, member-laid, fields-laid, members-laid, extent-laid}
+use Rattle.fixed_laws.proofs.Sound.{aligned-as, no-size, same-size, closed-sized, varying-no, field-at, type-laid, member-laid, fields-laid, members-laid, extent-laid}
 use Rattle.fixed_laws.proofs.Complete.{Agrees, type-agrees, has-field, fields-are}
 
 module _ (b : Bundle) (c : circles b ≡ false) where
@@ -110,14 +111,14 @@ module _ (b : Bundle) (c : circles b ≡ false) where
   over-large v (own.aStruct {a = at} {ms} {end} {most} p h) =
       let f = fields-laid b E (extent-laid b) (at .packed) ms 0 1 end most (omega arith) p in
       let q : f .top ≡ most = omega (arith, f .some, f .most-is) in
-      aSize (rule.aStruct (f .laid) (ap (alignmentOf at) (sym q)) (round-next end (alignmentOf at most))) h
+      aSize (rule.aStruct (f .laid) (aligned-as (ap (alignmentOf at) q)) (round-next end (alignmentOf at most))) h
   over-large v (own.aUnion {a = at} {ms} {end} {most} p h) =
       let f = members-laid b E (extent-laid b) ms 0 1 end most (omega arith) p in
       let q : f .top ≡ most = omega (arith, f .some, f .most-is) in
       let r : f .greatest ≡ end = omega (arith, f .size-is) in
-      aSize (rule.aUnion (f .laid) (ap (alignmentOf at) (sym q)) (subst (λ x. rule.IsNext x (alignmentOf at most) (roundUp end (alignmentOf at most))) (sym r) (round-next end (alignmentOf at most)))) h
+      aSize (rule.aUnion (f .laid) (aligned-as (ap (alignmentOf at) q)) (subst (λ x. rule.IsNext x (alignmentOf at most) (roundUp end (alignmentOf at most))) (sym r) (round-next end (alignmentOf at most)))) h
   over-large v (own.anArray {a = at} {jagged} {size} {t} {c = count} {n} {al} p q h) =
-      aSize (rule.anArray (λ j. v (subst (λ x. Varies b (array at x size t)) (sym j) jaggedArray)) p (laid t n al q .0) refl) h
+      aSize (rule.anArray (λ j. v (subst (λ x. Varies b (array at x size t)) (sym j) jaggedArray)) (is-count size count p) (laid t n al q .0) refl) h
 
   -- The laws.
 

@@ -20,7 +20,8 @@ use Rattle.meaning.specs.Sizes.{getPrimitiveSize}
 use Rattle.meaning.specs.Tree.{Attributes, Ty, primitive, typeRef, struct, union, enum, array, sizeUnion, Member, member, Members, more, Bundle}
 use Rattle.fixed_meaning.specs.Extent.{Extent, sized, unsized, largest, bounded, roundUp, offsetOf, withField, withMember, varying, isAlignment, alignmentOf, rounded, closed, repeated, arrayOf}
 use Rattle.fixed_meaning.specs.Fixed.{countOf, measure, measureMember, measureAll, measured, extentWithin, extentOf, fieldOffset, fieldOffsets}
-use Rattle.fixed_laws.specs.Rule.{IsNext, FieldAt, close, apart, Laid, aPrimitive, aStruct, aUnion, anArray, aReference, FieldsLaid, noField, field, MembersLaid, noMember, oneMore}
+use Rattle.fixed_laws.specs.Rule.{IsNext, AlignmentIs, FieldAt, withoutGap, atMultiple, Laid, aPrimitive, aStruct, aUnion, anArray, aReference, FieldsLaid, noField, field, MembersLaid, noMember, oneMore}
+use Rattle.fixed_laws.proofs.Tests.{alignment-is, is-count}
 use Rattle.fixed_laws.proofs.Rounding.{round-next}
 
 -- an extent is no refusal
@@ -36,8 +37,8 @@ unfolding offsetOf
 field-at packed end a = go (eqb packed 1) refl
   where
     go : (t : Bool) → eqb packed 1 ≡ t → FieldAt packed end a (cond t end (roundUp end a))
-    go true e = close (eqb-true packed 1 e)
-    go false e = apart (eqb-false packed 1 e) (round-next end a)
+    go true e = withoutGap (eqb-true packed 1 e)
+    go false e = atMultiple (eqb-false packed 1 e) (round-next end a)
 
 -- A test on a size or offset.
 
@@ -128,6 +129,10 @@ pub record Overlaid (b : Bundle) (ms : Members) (before so size most : ℕ) : Ty
   pub size-is : size ≡ max before greatest
   pub most-is : most ≡ max so top
 
+-- an alignment that was worked out
+pub aligned-as : {a : Attributes} {most x : ℕ} → alignmentOf a most ≡ x → AlignmentIs a most x
+aligned-as {a} {most} p = subst (AlignmentIs a most) p (alignment-is a most)
+
 -- a size that was rounded up
 rounded-next : {n a size c : ℕ} → roundUp n a ≡ size → a ≡ c → IsNext n c size
 rounded-next {n} {a} {size} {c} p q = subst (λ x. IsNext n x size) q (subst (IsNext n a) p (round-next n a))
@@ -143,17 +148,17 @@ module _ (b : Bundle) (known : ℕ → Extent) (sound : (n size a : ℕ) → kno
         let c = closed-sized at _ e in
         let f = fields-laid (at .packed) ms 0 1 (c .0) (c .1 .0) (omega arith) (c .1 .1 .0) in
         let q : f .top ≡ c .1 .0 = omega (arith, f .some, f .most-is) in
-        (aStruct (f .laid) (sym (ap (alignmentOf at) q ∙ c .1 .1 .1 .1 .0)) (rounded-next (c .1 .1 .1 .0) (c .1 .1 .1 .1 .0)), c .1 .1 .1 .1 .1)
+        (aStruct (f .laid) (aligned-as (ap (alignmentOf at) q ∙ c .1 .1 .1 .1 .0)) (rounded-next (c .1 .1 .1 .0) (c .1 .1 .1 .1 .0)), c .1 .1 .1 .1 .1)
     type-laid (union at ms) n a e =
         let c = closed-sized at _ e in
         let f = members-laid ms 0 1 (c .0) (c .1 .0) (omega arith) (c .1 .1 .0) in
         let q : f .top ≡ c .1 .0 = omega (arith, f .some, f .most-is) in
         let r : f .greatest ≡ c .0 = omega (arith, f .size-is) in
-        (aUnion (f .laid) (sym (ap (alignmentOf at) q ∙ c .1 .1 .1 .1 .0)) (subst (λ x. IsNext x a n) (sym r) (rounded-next (c .1 .1 .1 .0) (c .1 .1 .1 .1 .0))), c .1 .1 .1 .1 .1)
+        (aUnion (f .laid) (aligned-as (ap (alignmentOf at) q ∙ c .1 .1 .1 .1 .0)) (subst (λ x. IsNext x a n) (sym r) (rounded-next (c .1 .1 .1 .0) (c .1 .1 .1 .1 .0))), c .1 .1 .1 .1 .1)
     type-laid (enum at tag ms) n a e = absurd (varying-no at _ e)
     type-laid (array at jagged size t) n a e =
         let c = array-sized jagged (countOf size) _ e in
-        (anArray (c .0) (c .1 .1 .0) (type-laid t (c .1 .1 .1 .0) a (c .1 .1 .1 .1 .0) .0) (sym (c .1 .1 .1 .1 .1 .0)), c .1 .1 .1 .1 .1 .1)
+        (anArray (c .0) (is-count size (c .1 .0) (c .1 .1 .0)) (type-laid t (c .1 .1 .1 .0) a (c .1 .1 .1 .1 .0) .0) (sym (c .1 .1 .1 .1 .1 .0)), c .1 .1 .1 .1 .1 .1)
     type-laid (sizeUnion at ms) n a e = absurd (varying-no at _ e)
 
     pub member-laid : (m : Member) (n a : ℕ) → measureMember m known ≡ sized n a → Laid b (memberType m) n a

@@ -1,5 +1,5 @@
--- Laws that would contradict a wrong layout rule.
-use Prim.Native.Nat.{ℕ, _+_, _^_, _≤_, _<_}
+-- Laws of layouts that the document's words lead one to expect.
+use Prim.Native.Nat.{ℕ, _+_, _%_, _^_, _≤_, _<_}
 use mathlib.Core.Bool.{true, false}
 use mathlib.Core.List.{List, [], _∷_, List·Memᴰ}
 use mathlib.Core.Logic.{_↔_, _⊎_}
@@ -24,14 +24,14 @@ InOrder packed from (more m ms) known (o ∷ os) size =
 
 -- a part has a size that is at most n
 abbrev pub FitsIn : Member → (ℕ → Extent) → ℕ → Type 0
-FitsIn m known n = (k : ℕ) × ((a : ℕ) × ((measure (memberType m) known ≡ sized k a) × (k ≤ n)))
+FitsIn m known n = (k : ℕ) × ((a : ℕ) × ((measureMember m known ≡ sized k a) × (k ≤ n)))
 
 pub record Layouts : Type 0 where
   -- the fields of a struct do not overlap, stand in order, at multiples of their alignments, and end within its size
   pub in-order : (a : Attributes) (ms : Members) (known : ℕ → Extent) (n al : ℕ) → measure (struct a ms) known ≡ sized n al → InOrder (a .packed) 0 ms known (fieldOffsets (a .packed) ms (sized 0 1) known) n
-  -- the size of a struct and that of a union are multiples of their alignment
-  pub struct-multiple : (a : Attributes) (ms : Members) (known : ℕ → Extent) (n al : ℕ) → measure (struct a ms) known ≡ sized n al → Multiple al n
-  pub union-multiple : (a : Attributes) (ms : Members) (known : ℕ → Extent) (n al : ℕ) → measure (union a ms) known ≡ sized n al → Multiple al n
+  -- the size of a struct and that of a union are multiples of their alignment, which is not 0
+  pub struct-multiple : (a : Attributes) (ms : Members) (known : ℕ → Extent) (n al : ℕ) → measure (struct a ms) known ≡ sized n al → (0 < al) × (n % al ≡ 0)
+  pub union-multiple : (a : Attributes) (ms : Members) (known : ℕ → Extent) (n al : ℕ) → measure (union a ms) known ≡ sized n al → (0 < al) × (n % al ≡ 0)
   -- the size of a union is at least that of each member
   pub union-holds : (a : Attributes) (ms : Members) (known : ℕ → Extent) (n al : ℕ) → measure (union a ms) known ≡ sized n al → (m : Member) → List·Memᴰ m (listOf ms) → FitsIn m known n
   -- a TypeRef is its first definition

@@ -1,14 +1,12 @@
--- The layout rule (document 02, L1) as a relation: one case for each of its sentences. Sizes, alignments and offsets are natural numbers
--- without a bound, and nothing here refuses.
-use Prim.Native.Nat.{ℕ, _+_, _*_, _%_, _≤_, _<_, max}
+-- The layout rule (document 02, L1) as a relation, a case for each of its sentences, and apart from the functions of fixed_meaning. Sizes,
+-- alignments and offsets are natural numbers without a bound, and nothing here refuses.
+use Prim.Native.Nat.{ℕ, _+_, _*_, _%_, _^_, _≤_, _<_, max}
 use mathlib.Core.List.{List, [], _∷_}
 use mathlib.Core.Option.{some}
 use mathlib.Core.Path.{_≡_}
-use Rattle.meaning.specs.Tree.{Expr, Attributes, Ty, primitive, typeRef, struct, union, array, Member, Members, more, Bundle}
+use Rattle.meaning.specs.Tree.{Expr, literal, Attributes, Ty, primitive, typeRef, struct, union, array, Member, Members, more, Bundle}
 use Rattle.meaning.specs.Lookup.{memberType, findType}
 use Rattle.meaning.specs.Sizes.{getPrimitiveSize}
-use Rattle.fixed_meaning.specs.Extent.{alignmentOf}
-use Rattle.fixed_meaning.specs.Fixed.{countOf}
 
 -- n is a multiple of a, where that is an alignment: 0 is none, and no accepted bundle has it
 abbrev pub Multiple : ℕ → ℕ → Type 0
@@ -20,10 +18,28 @@ pub record IsNext (n a o : ℕ) : Type 0 where
   pub multiple : Multiple a o
   pub least : (x : ℕ) → n ≤ x → Multiple a x → o ≤ x
 
--- a field of alignment a lies at o, where the fields before it end at `end`: at the next multiple of a, in a packed struct without a gap
+-- a field of alignment a lies at o, where the fields before it end at `end`: in a packed struct without a gap, else at the next multiple
 pub data FieldAt (packed end a : ℕ) : ℕ → Type 0 where
-  close : packed ≡ 1 → FieldAt packed end a end
-  apart : {o : ℕ} → (packed ≡ 1 → ⊥) → IsNext end a o → FieldAt packed end a o
+  withoutGap : packed ≡ 1 → FieldAt packed end a end
+  atMultiple : {o : ℕ} → (packed ≡ 1 → ⊥) → IsNext end a o → FieldAt packed end a o
+
+-- the alignment of a struct or union before its aligned is looked at: the largest of the members, 1 if packed
+pub data Natural (a : Attributes) (most : ℕ) : ℕ → Type 0 where
+  ofMembers : (a .packed ≡ 1 → ⊥) → Natural a most most
+  ofPacked : {n : ℕ} → a .packed ≡ 1 → n ≡ 1 → Natural a most n
+
+-- an aligned above it replaces it
+pub data AlignmentIs (a : Attributes) (most : ℕ) : ℕ → Type 0 where
+  stays : {n : ℕ} → Natural a most n → a .aligned ≤ n → AlignmentIs a most n
+  replaced : {n alignment : ℕ} → Natural a most n → n < a .aligned → alignment ≡ a .aligned → AlignmentIs a most alignment
+
+-- the size of an array is a literal of this value, which is not negative: 01 to 04 are unsigned, 05 to 08 have 64, 32, 16 and 8 bits
+pub data IsCount : Expr → ℕ → Type 0 where
+  unsigned : {k v : ℕ} → k ≤ 4 → IsCount (literal k v) v
+  i64 : {k v : ℕ} → k ≡ 5 → v < 2 ^ 63 → IsCount (literal k v) v
+  i32 : {k v : ℕ} → k ≡ 6 → v < 2 ^ 31 → IsCount (literal k v) v
+  i16 : {k v : ℕ} → k ≡ 7 → v < 2 ^ 15 → IsCount (literal k v) v
+  i8 : {k v : ℕ} → k ≡ 8 → v < 2 ^ 7 → IsCount (literal k v) v
 
 mutual
   -- a type has this size and this alignment
@@ -31,11 +47,11 @@ mutual
     -- a primitive aligns to its size
     aPrimitive : {k size alignment : ℕ} → size ≡ getPrimitiveSize k → alignment ≡ size → Laid b (primitive k) size alignment
     -- a struct puts its fields one behind the other and rounds its size up to its alignment
-    aStruct : {a : Attributes} {ms : Members} {os : List ℕ} {end most size alignment : ℕ} → FieldsLaid b (a .packed) ms 0 os end most → alignment ≡ alignmentOf a most → IsNext end alignment size → Laid b (struct a ms) size alignment
+    aStruct : {a : Attributes} {ms : Members} {os : List ℕ} {end most size alignment : ℕ} → FieldsLaid b (a .packed) ms 0 os end most → AlignmentIs a most alignment → IsNext end alignment size → Laid b (struct a ms) size alignment
     -- a union has its largest member, or 0, rounded up
-    aUnion : {a : Attributes} {ms : Members} {greatest most size alignment : ℕ} → MembersLaid b ms greatest most → alignment ≡ alignmentOf a most → IsNext greatest alignment size → Laid b (union a ms) size alignment
+    aUnion : {a : Attributes} {ms : Members} {greatest most size alignment : ℕ} → MembersLaid b ms greatest most → AlignmentIs a most alignment → IsNext greatest alignment size → Laid b (union a ms) size alignment
     -- an array is count times element size, aligned as its element
-    anArray : {a : Attributes} {jagged : ℕ} {e : Expr} {t : Ty} {count each size alignment : ℕ} → (jagged ≡ 1 → ⊥) → countOf e ≡ some count → Laid b t each alignment → size ≡ count * each → Laid b (array a jagged e t) size alignment
+    anArray : {a : Attributes} {jagged : ℕ} {e : Expr} {t : Ty} {count each size alignment : ℕ} → (jagged ≡ 1 → ⊥) → IsCount e count → Laid b t each alignment → size ≡ count * each → Laid b (array a jagged e t) size alignment
     -- a TypeRef is its first definition
     aReference : {n : ℕ} {t : Ty} {size alignment : ℕ} → findType b n ≡ some t → Laid b t size alignment → Laid b (typeRef n) size alignment
 

@@ -1,4 +1,4 @@
--- How a call answers in C: a number, and a length by pointer.
+-- How a call answers in C: a number, and by pointer a length, for a fixed size also size and alignment.
 use Prim.Native.Nat.{ℕ, _≤_, _<_}
 use mathlib.Core.List.{List, [], _∷_}
 use mathlib.Core.Logic.{_↔_}

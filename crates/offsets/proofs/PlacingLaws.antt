@@ -54,7 +54,7 @@ use Rattle.fixed.specs.declared.Measured.{Measured}
 use Rattle.fixed.specs.Kept.{known}
 use Rattle.fixed.specs.Walk.{partOf, membersOf, IsRead}
 use Rattle.fixed.proofs.WalkLaws.{group-count, group-attributes, Joining, joining-next}
-use Rattle.fixed_definitions.specs.Keeping.{Known, Keeps}
+use Rattle.fixed_definitions.specs.Keeping.{Known, KeptExtents}
 use Rattle.fixed_definitions.proofs.KeepingLaws.{agree}
 use Rattle.offsets.specs.declared.Fixed.{Fixed}
 use Rattle.offsets.specs.declared.Fixed.the-variants.{Sized, Refused}
@@ -143,7 +143,7 @@ pub record Following (s : List ℕ) (n start i k : ℕ) : Type 0 where
   pub below : i < n
   pub offsets : definitionOffsets (bundleOf s) start ≡ offsetsIn (lookup.typeAt (bundleOf s) i) (extentOf (bundleOf s)) (offsetsWithin (bundleOf s) k)
   pub extent : definitionExtent (bundleOf s) start ≡ definitionExtent (bundleOf s) i
-  pub kept : (kept : List ℕ) → Keeps s kept → Known s kept start → Known s kept i
+  pub kept : (kept : List ℕ) → KeptExtents s kept → Known s kept start → Known s kept i
 
 module _ {s : List ℕ} {n : ℕ} {places : List ℕ} (tb : Table s n places) (c : circles (bundleOf s) ≡ false) where
   pub following-start : (i : ℕ) → i < n → Following s n i i n
@@ -168,7 +168,7 @@ module _ {s : List ℕ} {n : ℕ} {places : List ℕ} (tb : Table s n places) (c
     is-part = f .extent ∙ ap (λ o. measured o (extentOf (bundleOf s))) (placed-type tb i (f .below))
 
     -- where it leads
-    leads : (j : ℕ) → List·Memᴰ j (resolve (bundleOf s) (typeNames type)) → (kept : List ℕ) → Keeps s kept → Known s kept start → Known s kept j
+    leads : (j : ℕ) → List·Memᴰ j (resolve (bundleOf s) (typeNames type)) → (kept : List ℕ) → KeptExtents s kept → Known s kept start → Known s kept j
     unfolding leadsTo type
     leads j m kept g x = g .onward i j (omega (arith, f .below, tb .count, tb .placed .room)) (f .kept kept g x) (rw (placed-type tb i (f .below)) m)
 
@@ -357,7 +357,7 @@ module _ {s : List ℕ} {i at : ℕ} (d : Resolved s i at) (size a : ℕ) (befor
       let z : definitionOffsets (bundleOf s) i ≡ [] = d .offsets ∙ e _ in
       record { call = rw z (record { answer = rw (le-leb 0 (length before) (omega arith)); places = rw (le-leb 0 (length before) (omega arith)) }); extents = refl }
 
-  module _ {packed n m : ℕ} (f : FieldsFrom s at packed n m) {total : ℕ} {places : List ℕ} (tb : Table s total places) (c : circles (bundleOf s) ≡ false) {kept : List ℕ} (g : Keeps s kept) (k : Known s kept i) where
+  module _ {packed n m : ℕ} (f : FieldsFrom s at packed n m) {total : ℕ} {places : List ℕ} (tb : Table s total places) (c : circles (bundleOf s) ≡ false) {kept : List ℕ} (g : KeptExtents s kept) (k : Known s kept i) where
     abbrev xs : List ℕ
     xs = fieldOffsets packed (membersAt 23 0x50 n s m) (sized 0 1) (known s kept)
 

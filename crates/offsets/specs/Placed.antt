@@ -10,7 +10,7 @@ use Rattle.bundle.specs.View.{Reads}
 use Rattle.bundle.specs.Definitions.{typeAt, membersAt, bundleOf}
 use Rattle.fixed_meaning.specs.Extent.{Extent, sized, withField}
 use Rattle.fixed_meaning.specs.Fixed.{measure, measureAll, extentOf, fieldOffsets, offsetsOf, definitionExtent, definitionOffsets, given, sizing, placing}
-use Rattle.fixed_definitions.specs.Keeping.{Known, Keeps}
+use Rattle.fixed_definitions.specs.Keeping.{Known, KeptExtents}
 use Rattle.offsets.specs.declared.Fixed.{Fixed}
 use Rattle.offsets.specs.declared.Fixed.the-variants.{Sized, Refused}
 use Rattle.offsets.specs.declared.Fields.{Fields}
@@ -40,7 +40,7 @@ pub record Resolved (s : List ℕ) (i p : ℕ) : Type 0 where
   pub reads : Reads (readTy 24 s p)
   pub offsets : definitionOffsets (bundleOf s) i ≡ offsetsOf (typeAt 24 s p) (extentOf (bundleOf s)) (λ n. [])
   pub extent : definitionExtent (bundleOf s) i ≡ measure (typeAt 24 s p) (extentOf (bundleOf s))
-  pub kept : (kept : List ℕ) → Keeps s kept → Known s kept i → (j : ℕ) → List·Memᴰ j (resolve (bundleOf s) (typeNames (typeAt 24 s p))) → Known s kept j
+  pub kept : (kept : List ℕ) → KeptExtents s kept → Known s kept i → (j : ℕ) → List·Memᴰ j (resolve (bundleOf s) (typeNames (typeAt 24 s p))) → Known s kept j
 
 -- the type at p is a struct, with n fields from m on
 pub record FieldsFrom (s : List ℕ) (p packed n m : ℕ) : Type 0 where

@@ -17,7 +17,7 @@ ghost use Rattle.fixed_meaning.specs.Extent.{sized};
 ghost use Rattle.fixed_meaning.specs.Fixed.{fieldOffsets, definitionExtent};
 ghost use Rattle.fixed.specs.Kept.{Sound, known};
 ghost use Rattle.fixed.specs.Walk.{membersOf};
-ghost use Rattle.fixed_definitions.specs.Keeping.{Known, Keeps};
+ghost use Rattle.fixed_definitions.specs.Keeping.{Known, KeptExtents};
 ghost use Rattle.offsets.specs.Placed.{HasEnd, Answered, Placing, FixedCall, Resolved, FieldsAre};
 
 // The answer: size, alignment and the length of the list of offsets, or the number of a refusal.
@@ -117,7 +117,7 @@ fn place(
     offsets: &mut [u32],
 ) -> Fixed
     requires { ⌜ Table (now s) count (now places) × (definition < count) × (circles (bundleOf (now s)) ≡ false) ⌝ }
-    requires { ⌜ Keeps (now s) (now kept) × Known (now s) (now kept) definition × (definitionExtent (bundleOf (now s)) definition ≡ sized size alignment) ⌝ }
+    requires { ⌜ KeptExtents (now s) (now kept) × Known (now s) (now kept) definition × (definitionExtent (bundleOf (now s)) definition ≡ sized size alignment) ⌝ }
     ensures { λ r. ⌜ Placing (now (s .entry)) definition size alignment (now (offsets .entry)) (now (offsets .exit)) r ⌝ }
 {
     let at = resolved(s, places, count, definition);
