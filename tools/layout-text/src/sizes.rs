@@ -110,8 +110,12 @@ impl<'a> Sizes<'a> {
         let fixed = places
             .clone()
             .filter(|place| self.asked.definition(*place).is_ok());
-        let (fixed, all) = (fixed.count(), counted(places.len(), "definition"));
-        let have = if fixed == 1 { "has" } else { "have" };
+        let fixed = fixed.count();
+        let have = match fixed == 1 || places.len() == 1 {
+            true => "has",
+            false => "have",
+        };
+        let all = counted(places.len(), "definition");
         let head = format!("{fixed} of {all} {have} a fixed size.\n");
         let each = places.map(|place| {
             let answer = self.answer(place)?;

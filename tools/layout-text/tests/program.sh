@@ -221,6 +221,10 @@ wrong '`#99999` has no definition' sizes "$work/sizes.layout" '#99999'
 wrong 'no words are known for its names: write #17 for name 17, or give --names' sizes "$work/sizes.bundle" cell
 wrong '7777…` has no definition' sizes "$work/sizes.layout" "$(printf '%0999d' 0 | tr 0 7)"
 wrong '`` has no definition' sizes "$work/sizes.layout" ''
+wrong '`1` has no definition; write #17 for name 17' sizes "$work/sizes.layout" 1
+wrong 'this file is read; write to another' sizes "$work/sizes.layout" cell --svg -o "$work/sizes.layout"
+wrong 'this file is read; write to another' show "$work/sizes.bundle" -o "$work/sizes.bundle"
+expect 0 "$cell" sizes "$work/sizes.layout" cell
 wrong '`more` is one argument too many' sizes "$work/sizes.layout" cell more
 wrong '`--svg` is given without `NAME`' sizes "$work/sizes.layout" --svg
 wrong '`-o` is given without `--svg`' sizes "$work/sizes.layout" cell -o "$work/picture"
@@ -233,6 +237,9 @@ expect 0 'layout-text sizes' sizes --help
 expect 2 'Refused: circle (8)' sizes samples/refused-circle.layout
 expect 2 'The circle: winch_frame -> tension_record -> winch_frame' sizes samples/refused-circle.layout winch_frame
 expect 2 'Reading stopped at byte' sizes samples/refused-buried.layout
+expect 2 'Refused: circle (8)' sizes samples/refused-circle.layout winch_frame --svg
+"$tool" sizes samples/refused-circle.layout winch_frame --svg > "$work/picture" 2> /dev/null && fail 'a refused set has a picture'
+[ ! -s "$work/picture" ] || fail 'words of a refusal stand in the picture'
 head -c 40 "$work/sizes.bundle" > "$work/cut"
 expect 2 'Refused: short (2)' sizes "$work/cut"
 printf 'define frame cell' > "$work/wrong.layout"
