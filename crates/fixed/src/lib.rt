@@ -19,7 +19,7 @@ ghost use Rattle.fixed.specs.Kept.{keptAs, known, Sound};
 ghost use Rattle.fixed.specs.Walk.{TypeMeasured, MembersMeasured, GroupMeasured};
 
 // How many numbers are kept: of each definition its size, and behind those of each its alignment.
-pub const KEPT: usize = 512;
+pub const KEPT: usize = 2 * bundle::DEFINITIONS;
 
 // The extent of a type or of its members, and where it ends.
 pub struct Measured {
@@ -63,7 +63,7 @@ fn measure_name(s: &[u8], places: &[u16], count: usize, kept: &[u64], at: usize)
     if count <= i {
         return Extent::Unsized(11);
     }
-    kept_extent(kept[i], kept[256 + i])
+    kept_extent(kept[i], kept[bundle::DEFINITIONS + i])
 }
 
 // The extent and the end of the type that was read at `at`.

@@ -48,7 +48,7 @@ pub fn measure_definition(
         let j = lookup::definition_of(s, places, count, bundle::u16_at(s, at + 1));
         at = scan::next_stop(s, at + 3, end, false, false);
         if j < count {
-            if kept[256 + j] == 0 {
+            if kept[bundle::DEFINITIONS + j] == 0 {
                 measure_definition(s, places, count, kept, j, left - 1);
             }
         }
@@ -56,5 +56,5 @@ pub fn measure_definition(
     let m = fixed::measure_type(s, places, count, kept, places[i] as usize, 24);
     let e = m.extent;
     kept[i] = size_kept(e);
-    kept[256 + i] = alignment_kept(e);
+    kept[bundle::DEFINITIONS + i] = alignment_kept(e);
 }

@@ -8,7 +8,7 @@ use Rattle.meaning.specs.Tree.{Expr, literal, Attributes, Ty, primitive, typeRe
 use Rattle.meaning.specs.Lookup.{memberType, findType}
 use Rattle.meaning.specs.Sizes.{getPrimitiveSize}
 
--- n is a multiple of a, where that is an alignment: 0 is none, and no accepted bundle has it
+-- n is a multiple of a; 0 is no alignment, and every number counts as a multiple of it
 abbrev pub Multiple : ℕ → ℕ → Type 0
 Multiple a n = 0 < a → n % a ≡ 0
 

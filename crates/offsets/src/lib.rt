@@ -150,7 +150,7 @@ fn fixed_opened(
     }
     let mut kept = [0u64; fixed::KEPT];
     fixed_definitions::measure_definition(s, places, count, &mut kept, definition, count);
-    let extent = fixed::kept_extent(kept[definition], kept[256 + definition]);
+    let extent = fixed::kept_extent(kept[definition], kept[bundle::DEFINITIONS + definition]);
     match extent {
         Extent::Sized(size, alignment) => {
             place(
