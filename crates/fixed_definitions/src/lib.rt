@@ -53,7 +53,14 @@ pub fn measure_definition(
             }
         }
     }
-    let m = fixed::measure_type(s, places, count, kept, places[i] as usize, 24);
+    let m = fixed::measure_type(
+        s,
+        places,
+        count,
+        kept,
+        places[i] as usize,
+        bundle::DEPTH_LIMIT,
+    );
     let e = m.extent;
     kept[i] = size_kept(e);
     kept[bundle::DEFINITIONS + i] = alignment_kept(e);

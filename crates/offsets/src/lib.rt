@@ -95,7 +95,7 @@ fn write_offsets(
         let Step::Next(body) = head else {
             return;
         };
-        let m = fixed::measure_type(s, places, count, kept, body, 23);
+        let m = fixed::measure_type(s, places, count, kept, body, bundle::DEPTH_INSIDE);
         let part = m.extent;
         offsets[i] = extents::field_offset(packed, so, part) as u32;
         so = extents::with_field(packed, so, part);
