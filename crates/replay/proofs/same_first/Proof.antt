@@ -1,6 +1,6 @@
--- `answers::same_first` meets its contract: the index stays within both.
-use Rattle.answers.proofs.same_first.Statement.{statement}
-use Rattle.answers.proofs.same_first.Tie as tie
+-- `replay::same_first` meets its contract: the index stays within both.
+use Rattle.replay.proofs.same_first.Statement.{statement}
+use Rattle.replay.proofs.same_first.Tie as tie
 use borrow.Author.Needs.{needs}
 use Prim.Native.Nat.{_≤_, _-_}
 

@@ -1,6 +1,6 @@
--- `answers::offsets_are` meets its contract: the index stays within the list.
-use Rattle.answers.proofs.offsets_are.Statement.{statement}
-use Rattle.answers.proofs.offsets_are.Tie as tie
+-- `replay::offsets_are` meets its contract: the index stays within the list.
+use Rattle.replay.proofs.offsets_are.Statement.{statement}
+use Rattle.replay.proofs.offsets_are.Tie as tie
 use borrow.Author.Needs.{needs}
 use borrow.Author.Needs.{needs}
 use Prim.Native.Nat.{_≤_, _-_}

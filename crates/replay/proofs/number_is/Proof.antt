@@ -1,6 +1,6 @@
--- `answers::number_is` meets its contract: the index stays within the bytes.
-use Rattle.answers.proofs.number_is.Statement.{statement}
-use Rattle.answers.proofs.number_is.Tie as tie
+-- `replay::number_is` meets its contract: the index stays within the bytes.
+use Rattle.replay.proofs.number_is.Statement.{statement}
+use Rattle.replay.proofs.number_is.Tie as tie
 use borrow.Author.Needs.{needs}
 use borrow.Author.Needs.{needs}
 use Prim.Native.Nat.{_≤_, _-_}
