@@ -11,7 +11,7 @@ use denote.Enum.Declared.{tagOf}
 use lib.Dec.{T, leb, leb→le}
 use lib.ListN.{length, getD}
 use borrow.Author.Tests.{le-leb, lt-leb, lt-ltb, le-ltb}
-use Rattle.meaning.specs.Kinds.{Form, OfExpr, OfType, Literal, FieldRef, Sizeof, Alignof, Binary, Unary, formOf, lookup, widths}
+use Rattle.meaning.specs.Kinds.{Form, OfExpr, OfType, Literal, FieldRef, Sizeof, Alignof, Binary, Unary, formOf, lookup}
 use Rattle.meaning.specs.Kinds as kinds
 use Rattle.meaning.specs.Reader.{little}
 use Rattle.meaning.specs.ReadExpr.{readExpr}

@@ -6,7 +6,7 @@ use mathlib.Core.Logic.{_↔_, _⊎_}
 use mathlib.Core.Path.{_≡_}
 use Rattle.names.specs.Names.{Names, Exchange}
 use Rattle.meaning.specs.Circle.{circles}
-use Rattle.meaning.specs.Lookup.{listOf, memberType, findType}
+use Rattle.meaning.specs.Lookup.{listOf, findType}
 use Rattle.meaning.specs.Renumbering.{bundleNames, mapBundle}
 use Rattle.meaning.specs.Tree.{Attributes, struct, union, Member, Members, more, Bundle}
 use Rattle.fixed_meaning.specs.Extent.{Extent, sized, isAlignment}

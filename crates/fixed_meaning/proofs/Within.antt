@@ -3,7 +3,6 @@
 --     offsets-local      so do its offsets
 --     extent-enough      what is settled has the same extent from then on
 --     extent-equation    the law
--- Assumes nothing.
 use Prim.Native.Nat.{ℕ, zero, suc, _≤_, _<_}
 use mathlib.Core.Path.{_≡_, refl, sym, ap, _∙_}
 use mathlib.Core.List.{List, map, List·Memᴰ, List·Memᴰ·head, Memᴰ·append-left, Memᴰ·append-right}
