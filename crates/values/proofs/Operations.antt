@@ -1,10 +1,8 @@
 -- The kinds that are covered, and what each makes of two values.
 use Prim.Native.Nat.{ℕ, zero, suc, _+_, _-_, _≤_, _<_}
-use native.Mathlib.Nat.{not-suc-le-zero, le-of-suc-le-suc, eq-or-lt-of-le}
 use native.Mathlib.Omega.{arith}
-use mathlib.Core.Bool.{Bool, true, false, not, _&&_}
+use mathlib.Core.Bool.{Bool, true, false, not}
 use mathlib.Core.List.{List, [], _∷_}
-use mathlib.Core.Logic.{⊎-elim}
 use mathlib.Core.Option.{some}
 use types.Run.{OneOf}
 use mathlib.Core.Path.{_≡_, refl, sym, ap, ap₂, _∙_}
@@ -15,22 +13,12 @@ use mir.Syntax.{w64}
 use mir.Val.{SFits, toZ, ofZ}
 use mir.ValLaws.{toZ-ofZ}
 use borrow.Author.Tests.{eqb-true, eqb-false, eq-eqb, ne-eqb}
-use Rattle.meaning.proofs.KindTable.{and-0, and-1}
 use Rattle.fixed_meaning.specs.Value.{Value, valued, unvalued, ranged, eqZ, truth, divided, operations, operationOf, applied, operatedBy, operated}
+use Rattle.fixed_meaning.proofs.Every.{every, every-at}
 use Rattle.values.specs.declared.Valued.{Valued}
 use Rattle.values.specs.declared.Valued.the-variants.{Is, Refused}
 use Rattle.values.specs.Meant.{valueMeant, covers}
 use Rattle.values.proofs.Sums.{back}
-
--- a test passes at each number below n
-abbrev every : (ℕ → Bool) → ℕ → Bool
-every f zero = true
-every f (suc n) = f n && every f n
-
-every-at : (f : ℕ → Bool) (n k : ℕ) → T (every f n) → k < n → T (f k)
-every-at f zero k t h = absurd (not-suc-le-zero h)
-every-at f (suc n) k t h =
-    ⊎-elim (λ e. rw e (and-0 (f n) (every f n) t)) (λ l. every-at f n k (and-1 (f n) (every f n) t) l) (eq-or-lt-of-le (le-of-suc-le-suc h))
 
 passed : (b : Bool) → T b → true ≡ b
 passed true t = refl
