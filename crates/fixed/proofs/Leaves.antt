@@ -16,7 +16,7 @@ use Rattle.fixed_meaning.specs.Extent.{sized}
 use Rattle.extents.specs.declared.Extent.the-variants.{Sized, Unsized}
 use Rattle.extents.specs.Meant.{extentMeant, Part}
 use Rattle.fixed.specs.Kept.{keptAs}
-use Rattle.counts.proofs.CountLaws.{every-at}
+use Rattle.fixed_meaning.proofs.Every.{every-at}
 
 -- a primitive
 primitive-size : (k : ℕ) → 0x30 ≤ k → k ≤ 0x3B → (0 < getPrimitiveSize k) × (getPrimitiveSize k ≤ 8)

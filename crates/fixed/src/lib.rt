@@ -51,7 +51,7 @@ fn closed_at(s: &[u8], at: usize, kind: u8, so: Extent) -> Extent
     requires { ⌜ (at + 9 ≤ length (now s)) × Open so ⌝ }
     ensures { λ r. ⌜ (extentMeant r ≡ closeOf kind (attributes (getD (now (s .entry)) at 0) (little (now (s .entry)) (at + 1) 8)) (extentMeant so)) × Part r ⌝ }
 {
-    extents::close(kind, s[at], counts::number_at(s, at + 1, 8), so)
+    extents::close(kind, s[at], evaluate::number_at(s, at + 1, 8), so)
 }
 
 // The extent of the first definition of the name at `at`.
@@ -173,7 +173,7 @@ fn measure_array(
             end: at,
         };
     };
-    let counted = counts::count_of(s, at + 10, depth);
+    let counted = evaluate::count_of(s, at + 10, depth);
     let m = measure_type(s, places, count, kept, after, depth);
     let e = m.extent;
     Measured {

@@ -27,7 +27,7 @@ use Rattle.bundle.proofs.u16_at.Reads as u16-at-reads
 use Rattle.extents.proofs.array_of.Reads as array-of-reads
 use Rattle.extents.proofs.join.Reads as join-reads
 use Rattle.fixed.proofs.closed_at.Reads as closed-at-reads
-use Rattle.counts.proofs.count_of.Reads as count-of-reads
+use Rattle.evaluate.proofs.count_of.Reads as count-of-reads
 use Rattle.fixed.proofs.measure_name.Reads as measure-name-reads
 use Rattle.fixed.proofs.primitive.Reads as primitive-reads
 use Rattle.fixed.proofs.+measure_array+measure_enum+measure_group+measure_members+measure_type.{statement}
