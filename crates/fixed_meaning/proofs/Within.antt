@@ -3,16 +3,17 @@
 --     offsets-local      so do its offsets
 --     extent-enough      what is settled has the same extent from then on
 --     extent-equation    the law
+--     no-definition      a number without definition has no type
 use Prim.Native.Nat.{ℕ, zero, suc, _≤_, _<_}
 use mathlib.Core.Path.{_≡_, refl, sym, ap, _∙_}
-use mathlib.Core.List.{List, map, List·Memᴰ, List·Memᴰ·head, Memᴰ·append-left, Memᴰ·append-right}
+use mathlib.Core.List.{List, [], _∷_, map, List·Memᴰ, List·Memᴰ·head, Memᴰ·append-left, Memᴰ·append-right}
 use mathlib.Core.Bool.{true, false}
 use mathlib.Core.Option.{Option, none, some}
 use native.Mathlib.Omega.{arith}
 use native.Mathlib.Nat.{le-of-suc-le-suc}
-use lib.ListN.{length-map}
+use lib.ListN.{length, getElem?, length-map}
 use Rattle.meaning.specs.Tree.{Ty, primitive, typeRef, struct, union, enum, array, sizeUnion, Member, member, Members, more, Bundle}
-use Rattle.meaning.specs.Lookup.{count, definitionOf, findType}
+use Rattle.meaning.specs.Lookup.{count, definitionOf, typeAt, findType}
 use Rattle.meaning.specs.Circle.{typeNames, typeNamesOfMember, typeNamesOfMembers, resolve, namesIn, leadsTo, settled, circles}
 use Rattle.meaning.proofs.Lists.{getElem?-below}
 use Rattle.meaning.proofs.Circle.{resolve-mem, settled-zero, settled-step, settled-of}
@@ -103,3 +104,13 @@ module _ (b : Bundle) where
       go (some t) e =
           sym (extent-enough (count b) (suc (count b)) n (omega arith) (settled-of b c (definitionOf b n) (found-below b n e)))
           ∙ ap (λ o. measured o (extentWithin b (count b))) e
+
+-- A number that is not below the count of definitions names none.
+
+past : {A : Type 0} (xs : List A) (i : ℕ) → length xs ≤ i → getElem? xs i ≡ none
+past [] i h = refl
+past (x ∷ xs) zero h = absurd (omega arith)
+past (x ∷ xs) (suc i) h = past xs i (le-of-suc-le-suc h)
+
+pub no-definition : (b : Bundle) (i : ℕ) → count b ≤ i → typeAt b i ≡ none
+no-definition b i h = past (map (λ d. d .type) (b .definitions)) i (rw length-map h)

@@ -45,7 +45,7 @@ use Rattle.bundle.proofs.Heads.{count-where}
 use Rattle.bundle.proofs.Parts.{enum-at, array-at, members-none, members-length}
 use Rattle.fixed_meaning.specs.Extent as meaning
 use Rattle.fixed_meaning.specs.Extent.{sized, unsized, largest, bounded, offsetOf, withField, isAlignment, rounded, closed}
-use Rattle.fixed_meaning.proofs.Within.{Agree, measure-local, offsets-local, extent-equation}
+use Rattle.fixed_meaning.proofs.Within.{Agree, measure-local, offsets-local, extent-equation, no-definition}
 use Rattle.fixed_meaning.specs.Fixed.{measure, measureMember, measureAll, measured, extentOf, fieldOffset, fieldOffsets, offsetsOf, offsetsIn, offsetsWithin, definitionExtent, definitionOffsets, given, sizing, placing}
 use Rattle.extents.specs.declared.Extent.{Extent}
 use Rattle.extents.specs.declared.Extent.the-variants.{Sized as Part, Unsized}
@@ -382,17 +382,12 @@ module _ {s : List ℕ} {i at : ℕ} (d : Resolved s i at) (size a : ℕ) (befor
     unfolding answerMeant answerOf placesAfter
     place-written h after e = record { call = rw is-xs (record { answer = rw (as-many, le-leb n (length before) h); places = rw (as-many, le-leb n (length before) h) e }); extents = refl }
 
-past : {A : Type 0} (xs : List A) (i : ℕ) → length xs ≤ i → getElem? xs i ≡ nothing
-past [] i h = refl
-past (x ∷ xs) zero h = absurd (omega arith)
-past (x ∷ xs) (suc i) h = past xs i (le-of-suc-le-suc h)
-
 -- definition i of an opened bundle
 module _ {s : List ℕ} {n : ℕ} {places : List ℕ} (tb : Table s n places) (i : ℕ) (before : List ℕ) where
   pub answered-none : n ≤ i → Answered s i before before (Refused 11)
   unfolding definitionExtent measured answerMeant answerOf placesAfter
   answered-none h =
-      let z : lookup.typeAt (bundleOf s) i ≡ nothing = past (map (λ d. d .type) (bundleOf s .definitions)) i (rw length-map (omega (arith, tb .count))) in
+      let z : lookup.typeAt (bundleOf s) i ≡ nothing = no-definition (bundleOf s) i (omega (arith, tb .count)) in
       record { call = rw z (record { answer = refl; places = refl }); extents = tt }
 
   pub answered-unsized : (k : ℕ) (e : Extent) → extentMeant e ≡ definitionExtent (bundleOf s) i → e ≡ Unsized k → Answered s i before before (Refused k)
