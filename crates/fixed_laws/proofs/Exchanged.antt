@@ -1,4 +1,4 @@
--- An exchange of names changes no extent and no offset.
+-- An exchange of names changes no value, no extent and no offset.
 use Prim.Native.Nat.{ℕ, zero, suc}
 use mathlib.Core.List.{List}
 use mathlib.Core.Option.{Option, none, some, Option·map}
@@ -10,17 +10,22 @@ use Rattle.meaning.specs.Tree.{Expr, literal, fieldRef, sizeof, alignof, binary
 use Rattle.meaning.proofs.Injective.{Injective, count-map, typeAt-map, findType-map}
 use Rattle.meaning.proofs.Equivariance.{left-by-exchange}
 use Rattle.fixed_meaning.specs.Extent.{Extent, sized, withField, withMember, varying, closed, arrayOf}
-use Rattle.fixed_meaning.specs.Fixed.{countOf, measure, measureMember, measureAll, measured, extentWithin, extentOf, fieldOffsets, offsetsIn, offsetsWithin, definitionExtent, definitionOffsets}
+use Rattle.fixed_meaning.specs.Value.{operated, valueOf}
+use Rattle.fixed_meaning.specs.Fixed.{countBy, countOf, measure, measureMember, measureAll, measured, extentWithin, extentOf, fieldOffsets, offsetsIn, offsetsWithin, definitionExtent, definitionOffsets}
 
 module _ (f : ℕ → ℕ) where
+  pub value-same : (e : Expr) → valueOf (mapExpr f e) ≡ valueOf e
+  unfolding valueOf
+  value-same (literal k v) = refl
+  value-same (fieldRef ns) = refl
+  value-same (sizeof n) = refl
+  value-same (alignof n) = refl
+  value-same (binary k l r) = ap₂ (operated k) (value-same l) (value-same r)
+  value-same (unary k e) = refl
+
   count-same : (e : Expr) → countOf (mapExpr f e) ≡ countOf e
   unfolding countOf
-  count-same (literal k v) = refl
-  count-same (fieldRef ns) = refl
-  count-same (sizeof n) = refl
-  count-same (alignof n) = refl
-  count-same (binary k l r) = refl
-  count-same (unary k e) = refl
+  count-same e = ap countBy (value-same e)
 
   -- where the names have the same extents, so has the type
   module _ (known known′ : ℕ → Extent) (h : (n : ℕ) → known′ (f n) ≡ known n) where

@@ -1,12 +1,14 @@
 -- The layout rule (document 02, L1) as a relation, a case for each of its sentences, and apart from the functions of fixed_meaning. Sizes,
 -- alignments and offsets are natural numbers without a bound, and nothing here refuses.
-use Prim.Native.Nat.{ℕ, _+_, _*_, _%_, _^_, _≤_, _<_, max}
+use Prim.Native.Nat.{ℕ, _+_, _*_, _%_, _≤_, _<_, max}
 use mathlib.Core.List.{List, [], _∷_}
 use mathlib.Core.Option.{some}
 use mathlib.Core.Path.{_≡_}
-use Rattle.meaning.specs.Tree.{Expr, literal, Attributes, Ty, primitive, typeRef, struct, union, array, Member, Members, more, Bundle}
+use lib.IntN.{pos}
+use Rattle.meaning.specs.Tree.{Expr, Attributes, Ty, primitive, typeRef, struct, union, array, Member, Members, more, Bundle}
 use Rattle.meaning.specs.Lookup.{memberType, findType}
 use Rattle.meaning.specs.Sizes.{getPrimitiveSize}
+use Rattle.fixed_laws.specs.Expressions.{HasValue}
 
 -- n is a multiple of a; 0 is no alignment, and every number counts as a multiple of it
 abbrev pub Multiple : ℕ → ℕ → Type 0
@@ -33,13 +35,9 @@ pub data AlignmentIs (a : Attributes) (most : ℕ) : ℕ → Type 0 where
   stays : {n : ℕ} → Natural a most n → a .aligned ≤ n → AlignmentIs a most n
   replaced : {n alignment : ℕ} → Natural a most n → n < a .aligned → alignment ≡ a .aligned → AlignmentIs a most alignment
 
--- the size of an array is a literal of this value, which is not negative: 01 to 04 are unsigned, 05 to 08 have 64, 32, 16 and 8 bits
-pub data IsCount : Expr → ℕ → Type 0 where
-  unsigned : {k v : ℕ} → k ≤ 4 → IsCount (literal k v) v
-  i64 : {k v : ℕ} → k ≡ 5 → v < 2 ^ 63 → IsCount (literal k v) v
-  i32 : {k v : ℕ} → k ≡ 6 → v < 2 ^ 31 → IsCount (literal k v) v
-  i16 : {k v : ℕ} → k ≡ 7 → v < 2 ^ 15 → IsCount (literal k v) v
-  i8 : {k v : ℕ} → k ≡ 8 → v < 2 ^ 7 → IsCount (literal k v) v
+-- the count of an array: the value of its size, which is not negative
+abbrev pub IsCount : Expr → ℕ → Type 0
+IsCount e count = HasValue e (pos count)
 
 mutual
   -- a type has this size and this alignment
