@@ -163,18 +163,18 @@ in-range : {e : Expr} {z : ℤ} → HasValue e z → InRange z
 in-range (aLiteral s i) = i
 in-range (aResult h g m i) = i
 
-numbers : {e : Expr} {k : ℕ} → NoValue e k → (13 ≤ k) × (k ≤ 15)
-numbers (literalOutside s n) = (omega arith, omega arith)
-numbers (otherLiteral h) = (omega arith, omega arith)
-numbers aFieldRef = (omega arith, omega arith)
-numbers aSizeof = (omega arith, omega arith)
-numbers anAlignof = (omega arith, omega arith)
-numbers aUnary = (omega arith, omega arith)
-numbers (otherBinary n) = (omega arith, omega arith)
-numbers (left c n) = numbers n
-numbers (right c h n) = numbers n
-numbers (zeroDivisor d h g z) = (omega arith, omega arith)
-numbers (outside h g m n) = (omega arith, omega arith)
+pub number-range : {e : Expr} {k : ℕ} → NoValue e k → (13 ≤ k) × (k ≤ 15)
+number-range (literalOutside s n) = (omega arith, omega arith)
+number-range (otherLiteral h) = (omega arith, omega arith)
+number-range aFieldRef = (omega arith, omega arith)
+number-range aSizeof = (omega arith, omega arith)
+number-range anAlignof = (omega arith, omega arith)
+number-range aUnary = (omega arith, omega arith)
+number-range (otherBinary n) = (omega arith, omega arith)
+number-range (left c n) = number-range n
+number-range (right c h n) = number-range n
+number-range (zeroDivisor d h g z) = (omega arith, omega arith)
+number-range (outside h g m n) = (omega arith, omega arith)
 
 same-value : {y z : ℤ} → valued y ≡ valued z → y ≡ z
 same-value e = cc
@@ -191,7 +191,7 @@ values = record {
   one-value = λ e y z h g. same-value (sym (has-valued h) ∙ has-valued g);
   one-number = λ e j k h g. same-number (sym (no-valued h) ∙ no-valued g);
   in-range = λ e z. in-range;
-  numbers = λ e k. numbers;
+  numbers = λ e k. number-range;
   division = λ a b h. (quotZ a b, (remZ a b, division-is a b h));
   one-division = λ a b p q m n d e. (division-one d .0 ∙ sym (division-one e .0), division-one d .1 ∙ sym (division-one e .1));
   no-division = λ a q m d. divisor-is d refl;
