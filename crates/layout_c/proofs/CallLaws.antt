@@ -2,9 +2,13 @@
 use Prim.Native.Nat.{ℕ, _≤_, _<_}
 use native.Mathlib.Omega.{arith}
 use mathlib.Core.Logic.{_↔_, _⊎_, inl, inr}
-use mathlib.Core.Path.{_≡_, refl, sym, ap, _∙_}
+use mathlib.Core.Path.{_≡_, refl, sym, ap, ap₂, subst, _∙_}
 use mathlib.Core.List.{List, [], _∷_}
+use lib.IntN.{ℤ}
 use lib.ListN.{length}
+use mir.Syntax.{w64}
+use mir.Val.{SFits}
+use mir.ValLaws.{toZ-ofZ}
 use Rattle.names.specs.Records.{renumberBytes}
 use Rattle.meaning.specs.Kinds.{body}
 use Rattle.meaning.specs.Tree.{Bundle}
@@ -19,12 +23,20 @@ use Rattle.refusals.proofs.Laws.{one-number}
 use Rattle.demands.specs.Demands.{Nothing, Demand1}
 use Rattle.demands.proofs.Answering.{refused-number, accept-demand}
 use Rattle.fixed_meaning.specs.Fixed.{sizing, placing}
+use Rattle.fixed_meaning.specs.Value.{Value, valued, unvalued}
+use Rattle.fixed_meaning.specs.Valuing.{valuing}
 use Rattle.fixed_demand.proofs.Answering.{fixed-number}
+use Rattle.value_demand.specs.Demand.{KnownNumber}
+use Rattle.value_demand.proofs.Answering.{value-number}
+use Rattle.values.specs.declared.Valued.{Valued}
+use Rattle.values.specs.declared.Valued.the-variants.{Is, Refused as Not}
+use Rattle.values.specs.Meant.{valueMeant}
+use Rattle.values.proofs.Sums.{back}
 use Rattle.offsets.specs.declared.Fixed.{Fixed}
 use Rattle.offsets.specs.declared.Fixed.the-variants.{Sized, Refused}
 use Rattle.offsets.specs.Placed as placed
 use Rattle.offsets.specs.Placed.{Extents, FixedCall}
-use Rattle.layout_c.specs.Convention.{codeOf, writtenAfter, sizeAfter, alignmentAfter, CallInC, AcceptInC, FixedInC}
+use Rattle.layout_c.specs.Convention.{codeOf, writtenAfter, sizeAfter, alignmentAfter, CallInC, AcceptInC, FixedInC, codeOfValue, valueAfter, ValueInC}
 
 -- the number of an answer whose refusals are 1 to `most`
 module _ (most : ℕ) {r : ℕ} where
@@ -125,3 +137,42 @@ module _ {i : ℕ} {s before after : List ℕ} {f : Fixed} (c : FixedCall i s be
     zero = zero-code 12 a code-is numbered;
     known = known-code 12 a code-is numbered;
   }
+
+-- The answer about a value.
+
+pub code-of-value : (a : Valued) (z : ℤ) → a ≡ Is z → 0 ≡ codeOfValue (valueMeant a)
+unfolding codeOfValue valueMeant
+code-of-value a z e = rw e
+
+pub code-of-refusal : (a : Valued) (k : ℕ) → a ≡ Not k → k ≡ codeOfValue (valueMeant a)
+unfolding codeOfValue valueMeant
+code-of-refusal a k e = rw e
+
+pub value-given : (a : Valued) (z value : ℤ) → a ≡ Is z → SFits w64 z → back z ≡ valueAfter (valueMeant a) value
+unfolding valueAfter valueMeant
+value-given a z value e f = toZ-ofZ w64 z f ∙ rw e refl
+
+pub value-kept : (a : Valued) (k : ℕ) (value : ℤ) → a ≡ Not k → SFits w64 value → back value ≡ valueAfter (valueMeant a) value
+unfolding valueAfter valueMeant
+value-kept a k value e f = toZ-ofZ w64 value f ∙ rw e refl
+
+module _ (i : ℕ) (s : List ℕ) (bytes : Bytes s) (a : Valued) (c : valueMeant a ≡ valuing i s) (value out : ℤ) (r : ℕ) where
+  -- what goes in and what goes out have come back from their bits
+  pub value-in-c : SFits w64 value → SFits w64 out → r ≡ codeOfValue (valueMeant a) → out ≡ valueAfter (valueMeant a) (back value) → ValueInC i s value (back out) r
+  unfolding codeOfValue
+  value-in-c f g e p =
+      let code : r ≡ codeOfValue (valuing i s) = e ∙ ap codeOfValue c in
+      let o = numbered (valuing i s) refl code in
+      record { code = code; value-out = toZ-ofZ w64 out g ∙ p ∙ ap₂ valueAfter c (toZ-ofZ w64 value f); zero = o .0; known = o .1 }
+    where
+      numbered : (v : Value) → valuing i s ≡ v → r ≡ codeOfValue v → ((r ≡ 0) ↔ ((z : ℤ) × (valuing i s ≡ valued z))) × ((r ≡ 0) ⊎ KnownNumber r)
+      numbered (valued z) q e = ((λ h. (z, q), λ h. e), inl e)
+      numbered (unvalued k) q e = let n = value-number i s k bytes q in ((λ h. absurd (over n (sym e ∙ h)), λ h. absurd (apart (sym q ∙ h .1))), inr (subst KnownNumber (sym e) n))
+        where
+          over : KnownNumber k → k ≡ 0 → ⊥
+          over (inl x) z = omega (arith, x .0)
+          over (inr (inl x)) z = omega arith
+          over (inr (inr x)) z = omega (arith, x .0)
+
+          apart : {z : ℤ} → unvalued k ≡ valued z → ⊥
+          apart e = let y : _≡_ {A = ℕ} 0 1 = cc in omega arith

@@ -1,13 +1,17 @@
--- How a call answers in C: a number, and by pointer a length, for a fixed size also size and alignment.
+-- How a call answers in C: a number, and by pointer a length, for a fixed size also size and alignment; or a value.
 use Prim.Native.Nat.{ℕ, _≤_, _<_}
 use mathlib.Core.List.{List, [], _∷_}
-use mathlib.Core.Logic.{_↔_}
+use mathlib.Core.Logic.{_↔_, _⊎_}
 use mathlib.Core.Path.{_≡_}
+use lib.IntN.{ℤ}
 use lib.ListN.{length}
 use Rattle.meaning.specs.Tree.{Bundle}
 use Rattle.meaning.specs.Calls.{Answer, accepted, refusedWith, Outcome, result, answerOf, placesAfter, acceptance}
 use Rattle.refusals.specs.Numbers.{Keeps}
 use Rattle.fixed_meaning.specs.Fixed.{sizing, placing}
+use Rattle.fixed_meaning.specs.Value.{Value, valued, unvalued}
+use Rattle.fixed_meaning.specs.Valuing.{valuing}
+use Rattle.value_demand.specs.Demand.{KnownNumber}
 use Rattle.offsets.specs.declared.Fixed.{Fixed}
 use Rattle.offsets.specs.declared.Fixed.the-variants.{Sized, Refused}
 
@@ -57,3 +61,21 @@ pub record FixedInC (i : ℕ) (s before after : List ℕ) (size size′ alignmen
   pub stay : 0 < r → (size′ ≡ size) × (alignment′ ≡ alignment)
   pub zero : (r ≡ 0) ↔ ((n : ℕ) × (answerOf (placing i s) (length before) ≡ accepted n))
   pub known : r ≤ 12
+
+-- 0 for a value, and else the number of the refusal
+unfoldable pub codeOfValue : Value → ℕ
+codeOfValue (valued z) = 0
+codeOfValue (unvalued k) = k
+
+-- what stands where `value` points: the value that is due, and what it was on a refusal
+unfoldable pub valueAfter : Value → ℤ → ℤ
+valueAfter (valued z) value = z
+valueAfter (unvalued k) value = value
+
+-- The call for the value of the size of definition i of the bytes s returns r: 0 exactly where there is a value, which is then given, and
+-- else one of the numbers 1 to 8, 11 and 13 to 15.
+pub record ValueInC (i : ℕ) (s : List ℕ) (value value′ : ℤ) (r : ℕ) : Type 0 where
+  pub code : r ≡ codeOfValue (valuing i s)
+  pub value-out : value′ ≡ valueAfter (valuing i s) value
+  pub zero : (r ≡ 0) ↔ ((z : ℤ) × (valuing i s ≡ valued z))
+  pub known : (r ≡ 0) ⊎ KnownNumber r

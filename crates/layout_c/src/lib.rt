@@ -2,11 +2,13 @@
 // to `written`, which a refusal leaves as it was.
 use bundle::Answer;
 use offsets::Fixed;
+use values::Valued;
 ghost use mathlib.Core.Path.{_≡_};
 ghost use Rattle.meaning.specs.Due.{reporting, renumbering, chaining};
 ghost use Rattle.bundle.specs.Opened.{answerMeant};
 ghost use Rattle.offsets.specs.Placed as placed;
-ghost use Rattle.layout_c.specs.Convention.{codeOf, writtenAfter, sizeAfter, alignmentAfter, CallInC, AcceptInC, FixedInC};
+ghost use Rattle.values.specs.Meant.{valueMeant};
+ghost use Rattle.layout_c.specs.Convention.{codeOf, writtenAfter, sizeAfter, alignmentAfter, CallInC, AcceptInC, FixedInC, codeOfValue, valueAfter, ValueInC};
 
 // The number for an answer.
 fn code(answer: Answer) -> u8
@@ -130,4 +132,34 @@ pub extern "C" fn layout_fixed_size(
     *alignment = alignment_out(answer, *alignment);
     *written = offsets_out(answer, *written);
     fixed_code(answer)
+}
+
+// The number for an answer about a value.
+fn value_code(answer: Valued) -> u8
+    ensures { λ r. ⌜ r ≡ codeOfValue (valueMeant answer) ⌝ }
+{
+    match answer {
+        Valued::Is(_) => 0,
+        Valued::Refused(k) => k,
+    }
+}
+
+// The value that goes out for it, where `value` stood.
+fn value_out(answer: Valued, value: i64) -> i64
+    ensures { λ r. ⌜ r ≡ valueAfter (valueMeant answer) value ⌝ }
+{
+    match answer {
+        Valued::Is(z) => z,
+        Valued::Refused(_) => value,
+    }
+}
+
+// The value of the size of a definition that is an array.
+#[no_mangle]
+pub extern "C" fn layout_size_value(bundle: &[u8], definition: usize, value: &mut i64) -> u8
+    ensures { λ r. ⌜ ValueInC definition (now (bundle .entry)) (now (value .entry)) (now (value .exit)) r ⌝ }
+{
+    let answer = size_value::size_value(bundle, definition);
+    *value = value_out(answer, *value);
+    value_code(answer)
 }
