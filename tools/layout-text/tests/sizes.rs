@@ -230,6 +230,37 @@ Definition 0 (line 1), struct `a`: 8 bytes, alignment 1
 }
 
 #[test]
+fn each_operator_gives_its_value() {
+    let cases = [
+        ("200u8 + 100u8", 300),
+        ("-128i8 + -1i8", -129),
+        ("3u8 - 5u8", -2),
+        ("-3i16 * 5u8", -15),
+        ("7i8 / -2i8", -3),
+        ("-7i32 / 2u8", -3),
+        ("7i8 % -2i8", 1),
+        ("-7i64 % 2u8", -1),
+        ("255u8 == -1i8", 0),
+        ("255u8 == 255u64", 1),
+        ("255u8 != -1i8", 1),
+        ("3u8 != 3i8", 0),
+        ("-1i8 < 0u64", 1),
+        ("3u8 < 3u8", 0),
+        ("0u64 > -1i8", 1),
+        ("3u8 > 3u8", 0),
+        ("3u8 <= 3u8", 1),
+        ("4u8 <= 3u8", 0),
+        ("3u8 >= 3u8", 1),
+        ("3u8 >= 4u8", 0),
+    ];
+    for (size, value) in cases {
+        let due = format!("Its size is `{size}` = {value}.");
+        let told = size_line(&format!("define a jagged array [{size}] u8"));
+        assert_eq!(told, Some(due));
+    }
+}
+
+#[test]
 fn a_size_is_told_of_arrays_that_are_not_fixed() {
     let sum = Some("Its size is `4u8 - 6u8` = -2.".to_string());
     assert_eq!(size_line("define a jagged array [4u8 - 6u8] u8"), sum);
@@ -241,6 +272,10 @@ fn a_size_is_told_of_arrays_that_are_not_fixed() {
     assert_eq!(size_line("define a array [2u16 * 3u16] ref b"), sum);
     assert_eq!(
         size_line("define a array [2u16 * 3u16] array [2147483648u64] u8"),
+        sum
+    );
+    assert_eq!(
+        size_line("define a array [2u16 * 3u16] array [b.c] u8"),
         sum
     );
     // A literal says it all, unless it has no value.
