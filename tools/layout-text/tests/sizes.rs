@@ -153,6 +153,27 @@ fn what_varies_is_named() {
         ("define a size-union {}", "It is a size-union."),
         ("define a jagged array [2u8] u8", "It is a jagged array."),
         (
+            "define a ref b",
+            "It is of type `b`, which has no definition.",
+        ),
+        (
+            "define a struct { x: u8, y: ref b }\ndefine b ref c\ndefine c enum (x) {}",
+            "`a.y` is of type `b`, which is `c` (definition 2, line 3), an enum.",
+        ),
+        (
+            "define a array [0u8] union { x: ref b }\ndefine b struct { y: size-union {} }",
+            "`a[].x.y` is a size-union; it stands in `b` (definition 1, line 2).",
+        ),
+    ];
+    for (text, due) in cases {
+        assert_eq!(why(text, word), due);
+    }
+}
+
+#[test]
+fn a_size_that_gives_no_count_is_named() {
+    let cases = [
+        (
             "define a array [-1i16] u8",
             "It is an array whose size is negative, `-1i16`.",
         ),
@@ -175,21 +196,9 @@ fn what_varies_is_named() {
              the literal `18446744073709551615u64` is over 9,223,372,036,854,775,807; \
              it stands in `b` (definition 1, line 2).",
         ),
-        (
-            "define a ref b",
-            "It is of type `b`, which has no definition.",
-        ),
-        (
-            "define a struct { x: u8, y: ref b }\ndefine b ref c\ndefine c enum (x) {}",
-            "`a.y` is of type `b`, which is `c` (definition 2, line 3), an enum.",
-        ),
-        (
-            "define a array [0u8] union { x: ref b }\ndefine b struct { y: size-union {} }",
-            "`a[].x.y` is a size-union; it stands in `b` (definition 1, line 2).",
-        ),
     ];
     for (text, due) in cases {
-        assert_eq!(why(text, word), due);
+        assert_eq!(why(text, "varying (11)"), due);
     }
 }
 
@@ -278,6 +287,10 @@ fn a_size_is_told_of_arrays_that_are_not_fixed() {
         size_line("define a array [2u16 * 3u16] array [b.c] u8"),
         sum
     );
+}
+
+#[test]
+fn a_size_is_told_only_where_there_is_more_to_say() {
     // A literal says it all, unless it has no value.
     assert_eq!(size_line("define a jagged array [3u8] u8"), None);
     assert_eq!(size_line("define a jagged array [-3i8] u8"), None);
@@ -314,50 +327,40 @@ fn lack(size: &str) -> (String, String) {
 
 #[test]
 fn the_part_without_a_value_is_named() {
+    let fields = [
+        ("1u8 % (b == c)", "b"),
+        ("b + (2u8 / 0i8)", "b"),
+        ("4u8 * b.c", "b.c"),
+    ];
+    for (size, field) in fields {
+        let due = format!("it reads the field `{field}`.");
+        assert_eq!(lack(size), ("uncovered (15)".to_string(), due), "{size}");
+    }
+    let kinds = [
+        ("(1u8 / 0u8) ** 2u8", "(1u8 / 0u8) ** 2u8", "Pow"),
+        ("1u8 + !(1u8 / 0u8)", "!(1u8 / 0u8)", "Not"),
+        ("alignof(b) / 0u8", "alignof(b)", "Alignof"),
+    ];
+    for (size, part, kind) in kinds {
+        let due = format!("`{part}` is of kind {kind}, which has none.");
+        assert_eq!(lack(size), ("uncovered (15)".to_string(), due), "{size}");
+    }
+    let divided = [
+        ("1u8 % (2u8 - 2u8)", "2u8 - 2u8", "1u8 % (2u8 - 2u8)"),
+        ("(2u8 / 0i8) + b", "0i8", "2u8 / 0i8"),
+    ];
+    for (size, divisor, part) in divided {
+        let due = format!("the divisor `{divisor}` of `{part}` is 0.");
+        assert_eq!(lack(size), ("zero divisor (13)".to_string(), due), "{size}");
+    }
+}
+
+#[test]
+fn a_part_outside_the_range_is_named_with_its_number() {
     let (over, below) = (
         "over 9,223,372,036,854,775,807.",
         "below -9,223,372,036,854,775,808.",
     );
-    let cases = [
-        (
-            "1u8 % (b == c)",
-            "uncovered (15)",
-            "it reads the field `b`.",
-        ),
-        (
-            "1u8 % (2u8 - 2u8)",
-            "zero divisor (13)",
-            "the divisor `2u8 - 2u8` of `1u8 % (2u8 - 2u8)` is 0.",
-        ),
-        (
-            "(2u8 / 0i8) + b",
-            "zero divisor (13)",
-            "the divisor `0i8` of `2u8 / 0i8` is 0.",
-        ),
-        (
-            "b + (2u8 / 0i8)",
-            "uncovered (15)",
-            "it reads the field `b`.",
-        ),
-        (
-            "(1u8 / 0u8) ** 2u8",
-            "uncovered (15)",
-            "`(1u8 / 0u8) ** 2u8` is of kind Pow, which has none.",
-        ),
-        (
-            "1u8 + !(1u8 / 0u8)",
-            "uncovered (15)",
-            "`!(1u8 / 0u8)` is of kind Not, which has none.",
-        ),
-        (
-            "alignof(b) / 0u8",
-            "uncovered (15)",
-            "`alignof(b)` is of kind Alignof, which has none.",
-        ),
-    ];
-    for (size, refusal, why) in cases {
-        assert_eq!(lack(size), (refusal.to_string(), why.to_string()), "{size}");
-    }
     let ranges = [
         ("9223372036854775807u64 + 1u8", "9223372036854775808", over),
         (
