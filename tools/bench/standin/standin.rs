@@ -4,6 +4,7 @@
 use layout_oracle::bundle::{encode, Bundle, Refusal, OUTPUT_TOO_SMALL};
 use layout_oracle::fixed::fixed_answer;
 use layout_oracle::report::report_bytes;
+use layout_oracle::value::value_answer;
 use layout_oracle::{reader, reference};
 
 /// # Safety
@@ -127,4 +128,22 @@ pub unsafe extern "C" fn layout_fixed_size(
         output_slice(offsets, offsets_len),
         &mut *written,
     )
+}
+
+/// # Safety
+/// See include/layout.h.
+#[no_mangle]
+pub unsafe extern "C" fn layout_size_value(
+    bundle: *const u8,
+    bundle_len: usize,
+    definition: usize,
+    value: *mut i64,
+) -> u8 {
+    match value_answer(input_slice(bundle, bundle_len), definition) {
+        Err(refusal) => refusal,
+        Ok(found) => {
+            *value = found;
+            0
+        }
+    }
 }

@@ -25,6 +25,18 @@ impl<'a> Asked<'a> {
         layout::fixed_size_vec(self.bytes, place)
     }
 
+    /// The value of the size of an array that a definition is, or that stands inside it.
+    pub fn value(&self, place: usize, array: &Array) -> Result<Result<i64, Refusal>, String> {
+        if let Type::Array(own) = &self.bundle.definitions[place].body {
+            if **own == *array {
+                return Ok(layout::size_value(self.bytes, place));
+            }
+        }
+        let body = Type::Array(Box::new(array.clone()));
+        let bytes = encode(&self.with(place, &body))?;
+        Ok(layout::size_value(&bytes, place))
+    }
+
     /// The answer about a type that stands inside a definition. It has no number, so the library is asked about the
     /// bundle with the type in the definition's place. That bundle has no more of anything, and what the type leads to
     /// is the same in it: nothing inside a definition leads back to it, since the bundle does not circle.

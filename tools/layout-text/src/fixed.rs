@@ -2,6 +2,7 @@
 //! walk finds the part that they are about, and works the sizes out a second time to compare them.
 
 use crate::tree::*;
+use crate::value::count;
 use crate::words;
 use layout::{FixedLayout, Refusal};
 use std::collections::HashMap;
@@ -53,14 +54,6 @@ pub struct Obstacle<'a> {
 struct Measure {
     size: u128,
     alignment: u64,
-}
-
-/// The count of an array whose size is a literal that is not negative.
-pub fn count(size: &Expr) -> Option<u128> {
-    match size {
-        Expr::Literal(kind, bits) => u128::try_from(words::literal_value(*kind, *bits)).ok(),
-        _ => None,
-    }
 }
 
 /// Bytes of the primitive with this kind byte.

@@ -19,4 +19,5 @@ pub mod show;
 pub mod sizes;
 pub mod table;
 pub mod tree;
+pub mod value;
 pub mod words;

@@ -35,8 +35,9 @@ FILE as text if its name ends in .layout, or if it does not start with hex 60 an
 UTF-8 without control characters; --text and --bytes say otherwise. REPORT is a report's
 bytes or its hexadecimal digits; one that is not FILE's is refused. With --as-given it
 is not compared. sizes prints the size, the alignment and the fields of every definition
-that has a fixed size, and says why the others have none; with NAME, a word or a number
-as #17, of that definition alone. --svg draws that one.
+that has a fixed size, and says why the others have none; of an array whose size is
+written as a sum the value too, or which part of the sum has none. With NAME, a word or
+a number as #17, it is that definition alone. --svg draws that one.
 A text may have 4,194,304 bytes.
 Exit codes: 0 done, and for explain no violation; 1 violations; 2 a bundle that is
 refused, or a NAME without a fixed size; 3 a damaged text, a report that is not the

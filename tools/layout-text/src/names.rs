@@ -68,7 +68,10 @@ impl Names {
 
     /// The word of a number for a message or a table: of a long one the start.
     pub fn short(&self, number: Name) -> String {
-        cut(&self.word(number)).into_owned()
+        match self.words.get(&number) {
+            Some(word) => cut(word).into_owned(),
+            None => self.word(number),
+        }
     }
 
     /// Whether no number has a word.

@@ -5,7 +5,8 @@ use crate::fixed::{Fault, Obstacle, Step};
 use crate::names::Names;
 use crate::show::expression;
 use crate::tree::*;
-use crate::words::{self, counted, cut, group_word};
+use crate::value::{value, Lack, Valueless};
+use crate::words::{self, counted, group_word};
 
 /// Of a path with more steps the first and the last half of so many are shown.
 const SHOWN_STEPS: usize = 16;
@@ -118,15 +119,54 @@ fn varying_text(node: &Type, names: &Names) -> String {
         Type::TypeRef(_) => "which has no definition".to_string(),
         Type::Group(group) => a_group(group.kind),
         Type::Array(array) if array.jagged => "a jagged array".to_string(),
-        Type::Array(array) => {
-            let size = expression(&array.size, names);
-            let size = cut(&size);
-            match &array.size {
-                Expr::FieldRef(_) => format!("an array whose size reads the field `{size}`"),
-                Expr::Literal(..) => format!("an array whose size is negative, `{size}`"),
-                _ => format!("an array whose size is no literal, `{size}`"),
+        Type::Array(array) => format!("an array whose size {}", no_count(&array.size, names)),
+        Type::Primitive(_) => words::type_word(node).to_string(),
+    }
+}
+
+/// Why a size gives an array no count.
+fn no_count(size: &Expr, names: &Names) -> String {
+    match (value(size), size) {
+        (Err(found), _) => no_value(size, &found, names),
+        (Ok(_), Expr::Literal(..)) => format!("is negative, `{}`", expression(size, names)),
+        (Ok(value), _) => format!("is negative, `{}` = {value}", expression(size, names)),
+    }
+}
+
+/// That a size has no value, and why. It is shown as a whole where the part is not all of it.
+pub fn no_value(size: &Expr, found: &Valueless, names: &Names) -> String {
+    let whole = match std::ptr::eq(size, found.part) {
+        true => String::new(),
+        false => format!("`{}` ", expression(size, names)),
+    };
+    let (refusal, why) = (found.refusal(), lack_text(found, names));
+    let (word, number) = (refusal.word(), refusal.number());
+    format!("{whole}has no value, {word} ({number}): {why}")
+}
+
+/// Why a part has no value.
+fn lack_text(found: &Valueless, names: &Names) -> String {
+    let part = expression(found.part, names);
+    match (found.lack, found.part) {
+        (Lack::ZeroDivisor, Expr::Binary(_, _, divisor)) => {
+            let divisor = expression(divisor, names);
+            format!("the divisor `{divisor}` of `{part}` is 0")
+        }
+        (Lack::ZeroDivisor, _) => format!("`{part}` divides by 0"),
+        (Lack::OutOfRange(exact), node) => {
+            let beyond = match exact < 0 {
+                true => "below -9,223,372,036,854,775,808",
+                false => "over 9,223,372,036,854,775,807",
+            };
+            match node {
+                Expr::Literal(..) => format!("the literal `{part}` is {beyond}"),
+                _ => format!("`{part}` is {exact}, {beyond}"),
             }
         }
-        Type::Primitive(_) => words::type_word(node).to_string(),
+        (Lack::Uncovered, Expr::FieldRef(_)) => format!("it reads the field `{part}`"),
+        (Lack::Uncovered, node) => {
+            let kind = words::expression_kind(node);
+            format!("`{part}` is of kind {kind}, which has none")
+        }
     }
 }

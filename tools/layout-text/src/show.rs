@@ -12,11 +12,7 @@ use std::fmt::Write;
 /// written by number. The `name` lines are left out where the words get their
 /// numbers without them.
 pub fn show(bundle: &Bundle, names: &Names) -> String {
-    let mut writer = Writer {
-        names,
-        used: BTreeSet::new(),
-        out: String::new(),
-    };
+    let mut writer = Writer::new(names, Names::word);
     writer.bundle(bundle);
     let body = writer.out.trim_start_matches('\n').to_string();
     let same = parse(&body).is_ok_and(|text| encode(&text.bundle) == encode(bundle));
@@ -30,14 +26,13 @@ pub fn show(bundle: &Bundle, names: &Names) -> String {
     table + "\n" + &body
 }
 
-/// An expression as text.
+/// The most letters that are shown of an expression in a message or a table.
+const SHOWN_LETTERS: usize = 80;
+
+/// An expression as text for a message or a table: of a long one the start.
 pub fn expression(node: &Expr, names: &Names) -> String {
-    let mut writer = Writer {
-        names,
-        used: BTreeSet::new(),
-        out: String::new(),
-    };
-    writer.expr(node)
+    let text = Writer::new(names, Names::short).expr(node);
+    words::cut_to(&text, SHOWN_LETTERS).into_owned()
 }
 
 fn push_line(out: &mut String, line: String) {
@@ -47,14 +42,25 @@ fn push_line(out: &mut String, line: String) {
 
 struct Writer<'a> {
     names: &'a Names,
+    /// How a name is written.
+    word: fn(&Names, Name) -> String,
     used: BTreeSet<Name>,
     out: String,
 }
 
-impl Writer<'_> {
+impl<'a> Writer<'a> {
+    fn new(names: &'a Names, word: fn(&Names, Name) -> String) -> Writer<'a> {
+        Writer {
+            names,
+            word,
+            used: BTreeSet::new(),
+            out: String::new(),
+        }
+    }
+
     fn name(&mut self, name: Name) -> String {
         self.used.insert(name);
-        self.names.word(name)
+        (self.word)(self.names, name)
     }
 
     fn bundle(&mut self, bundle: &Bundle) {

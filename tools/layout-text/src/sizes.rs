@@ -1,17 +1,18 @@
-//! The fixed sizes of a set's definitions in words and tables. Every number comes from the library; the walk in
-//! fixed.rs must agree with it.
+//! The fixed sizes of a set's definitions in words and tables, and the values of the sizes of arrays. Every number
+//! comes from the library; the walk in fixed.rs and the evaluation in value.rs must agree with it.
 
 use crate::asked::Asked;
 use crate::explain::Source;
-use crate::fixed::{count, Walk};
+use crate::fixed::{Fault, Obstacle, Step, Walk};
 use crate::names::Names;
-use crate::obstacle::sentence;
+use crate::obstacle::{no_value, sentence};
 use crate::picture::picture;
 use crate::show::expression;
 use crate::table::{table, Content, Row};
 use crate::tree::*;
+use crate::value::{count, value, Value};
 use crate::words::{self, counted};
-use layout::FixedLayout;
+use layout::{FixedLayout, Refusal};
 
 /// What is said about one definition.
 pub struct Answer {
@@ -57,14 +58,7 @@ impl<'a> Sizes<'a> {
         match (answered, found) {
             (Ok(layout), Ok(own)) if layout == own => self.fixed_plan(place, layout).map(Ok),
             (Err(refusal), Err(obstacle)) if obstacle.fault.refusal() == refusal => {
-                let name = self.bundle.definitions[place].name;
-                let first = |name| self.walk.first(name);
-                let why = sentence(name, &obstacle, self.source, first);
-                let (head, word, number) = (self.head(place), refusal.word(), refusal.number());
-                Ok(Err(Answer {
-                    text: format!("{head}: no fixed size, {word} ({number})\n  {why}\n"),
-                    fixed: false,
-                }))
+                Ok(Err(self.refused(place, refusal, &obstacle)?))
             }
             (answered, found) => {
                 let found = found.map_err(|obstacle| obstacle.fault.refusal());
@@ -75,6 +69,69 @@ impl<'a> Sizes<'a> {
                 ))
             }
         }
+    }
+
+    /// Why a definition has no fixed size, and what is to be said of its own size besides.
+    fn refused(
+        &self,
+        place: usize,
+        refusal: Refusal,
+        obstacle: &Obstacle<'a>,
+    ) -> Result<Answer, String> {
+        // Where a size is in the way, the sentence has a number more, on which the library must agree too.
+        let sized = self.sized_at(place, obstacle);
+        let agreed = sized.map(|(holder, array)| self.value(holder, array));
+        agreed.transpose()?;
+        let size = match sized.is_some() && obstacle.steps.is_empty() {
+            true => String::new(),
+            false => self.size_line(place)?,
+        };
+        let name = self.bundle.definitions[place].name;
+        let why = sentence(name, obstacle, self.source, |name| self.walk.first(name));
+        let (head, word, number) = (self.head(place), refusal.word(), refusal.number());
+        Ok(Answer {
+            text: format!("{head}: no fixed size, {word} ({number})\n  {why}\n{size}"),
+            fixed: false,
+        })
+    }
+
+    /// The array whose size is in the way, if it is one, and the definition that it stands in.
+    fn sized_at(&self, place: usize, obstacle: &Obstacle<'a>) -> Option<(usize, &'a Array)> {
+        let Fault::Varying(Type::Array(array)) = obstacle.fault else {
+            return None;
+        };
+        let holder = obstacle.steps.iter().rev().find_map(|step| match step {
+            Step::Definition(name) => self.walk.first(*name),
+            _ => None,
+        });
+        (!array.jagged).then_some((holder.unwrap_or(place), &**array))
+    }
+
+    /// The value of the size of an array in a definition, on which the library and the evaluation agree.
+    fn value(&self, place: usize, array: &'a Array) -> Result<Value<'a>, String> {
+        let answered = self.asked.value(place, array)?;
+        let found = value(&array.size);
+        match found.map_err(|found| found.refusal()) {
+            own if own == answered => Ok(found),
+            own => Err(format!(
+                "definition {place}: the library answers {} for the size of an array, and the evaluation finds {}",
+                value_text(&answered),
+                value_text(&own)
+            )),
+        }
+    }
+
+    /// A line on the size of a definition that is an array, if it is more than a literal or has no value.
+    fn size_line(&self, place: usize) -> Result<String, String> {
+        let Type::Array(array) = &self.bundle.definitions[place].body else {
+            return Ok(String::new());
+        };
+        let (size, names) = (&array.size, &self.source.names);
+        Ok(match (self.value(place, array)?, size) {
+            (Ok(_), Expr::Literal(..)) => String::new(),
+            (Ok(value), _) => format!("  Its size is `{}` = {value}.\n", expression(size, names)),
+            (Err(found), _) => format!("  Its size {}.\n", no_value(size, &found, names)),
+        })
     }
 
     fn fixed_plan(&mut self, place: usize, layout: FixedLayout) -> Result<Plan<'a>, String> {
@@ -97,9 +154,9 @@ impl<'a> Sizes<'a> {
             Ok(plan) => plan,
             Err(answer) => return Ok(answer),
         };
-        let title = self.title(place, &plan)?;
+        let (title, size) = (self.title(place, &plan)?, self.size_line(place)?);
         Ok(Answer {
-            text: format!("{title}\n{}", table(&plan.rows)),
+            text: format!("{title}\n{size}{}", table(&plan.rows)),
             fixed: true,
         })
     }
@@ -159,7 +216,10 @@ impl<'a> Sizes<'a> {
         let more = match plan.body {
             Type::Group(group) => group_text(group),
             Type::Array(array) => {
-                let count = count(&array.size).unwrap_or(0);
+                let count = self.value(shown, array)?.map_err(|found| {
+                    let refusal = found.refusal();
+                    format!("definition {shown} has a fixed size, and its size no value: {refusal}")
+                })?;
                 let each = self.asked.inside(shown, &array.element)?.size;
                 let elements = counted(count, "element");
                 let kind = type_text(&array.element, &self.source.names);
@@ -183,6 +243,13 @@ fn answer_text(answer: &Result<FixedLayout, layout::Refusal>) -> String {
             let (size, alignment) = (layout.size, layout.alignment);
             format!("size {size}, alignment {alignment} and {offsets}")
         }
+        Err(refusal) => refusal.to_string(),
+    }
+}
+
+fn value_text(answer: &Result<i64, Refusal>) -> String {
+    match answer {
+        Ok(value) => format!("the value {value}"),
         Err(refusal) => refusal.to_string(),
     }
 }

@@ -1,6 +1,6 @@
 //! The words and signs of the notation, in the order of their kind bytes.
 
-use crate::tree::{literal_width, GroupKind, Type};
+use crate::tree::{literal_width, Expr, GroupKind, Type};
 use std::borrow::Cow;
 use std::fmt;
 
@@ -23,8 +23,34 @@ pub const BINARY: [&str; 20] = [
 ];
 pub const FIRST_BINARY: u8 = 0x10;
 
+/// Their names.
+const BINARY_KINDS: [&str; 20] = [
+    "Add",
+    "Sub",
+    "Mul",
+    "Div",
+    "Mod",
+    "Pow",
+    "BitAnd",
+    "BitOr",
+    "BitXor",
+    "LeftShift",
+    "RightShift",
+    "Eq",
+    "Ne",
+    "Lt",
+    "Gt",
+    "Le",
+    "Ge",
+    "And",
+    "Or",
+    "Xor",
+];
+
 /// From kind byte 24 on. The last one is written like a call.
 pub const UNARY: [&str; 4] = ["~", "-", "!", "popcount"];
+/// Their names.
+const UNARY_KINDS: [&str; 4] = ["BitNot", "Neg", "Not", "Popcount"];
 pub const FIRST_UNARY: u8 = 0x24;
 pub const NEG: u8 = 0x25;
 pub const POPCOUNT: u8 = 0x27;
@@ -44,7 +70,12 @@ const QUOTED: usize = 40;
 
 /// A word from the input for a message: the whole word, or its start and an ellipsis.
 pub fn cut(word: &str) -> Cow<'_, str> {
-    match word.char_indices().nth(QUOTED) {
+    cut_to(word, QUOTED)
+}
+
+/// The same with so many letters at the most.
+pub fn cut_to(word: &str, most: usize) -> Cow<'_, str> {
+    match word.char_indices().nth(most) {
         None => Cow::Borrowed(word),
         Some((end, _)) => Cow::Owned(format!("{}…", &word[..end])),
     }
@@ -84,6 +115,18 @@ pub fn literal_value(kind: u8, bits: u64) -> i128 {
     }
     let unused = 64 - 8 * literal_width(kind) as u32;
     i128::from(((bits << unused) as i64) >> unused)
+}
+
+/// The name of an expression's kind.
+pub fn expression_kind(node: &Expr) -> &'static str {
+    match node {
+        Expr::Literal(kind, _) => word_of(&LITERALS, FIRST_LITERAL, *kind),
+        Expr::FieldRef(_) => "FieldRef",
+        Expr::Sizeof(_) => "Sizeof",
+        Expr::Alignof(_) => "Alignof",
+        Expr::Binary(kind, ..) => word_of(&BINARY_KINDS, FIRST_BINARY, *kind),
+        Expr::Unary(kind, _) => word_of(&UNARY_KINDS, FIRST_UNARY, *kind),
+    }
 }
 
 /// What a type is, in one or two words.

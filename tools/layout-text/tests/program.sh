@@ -207,7 +207,7 @@ expect 0 "$cell" sizes "$work/sizes.layout" cell
 expect 0 '       1     3             (gap)' sizes "$work/sizes.layout" cell
 expect 0 'Definition 0, struct `#1`: 8 bytes' sizes "$work/sizes.bundle" '#1'
 expect 0 "$cell" sizes --names "$work/sizes.layout" "$work/sizes.bundle" cell
-tail='`frame.tail` is of type `samples` (definition 2, line 3), an array whose size reads the field `frame.count`.'
+tail='`frame.tail` is of type `samples` (definition 2, line 3), an array whose size has no value, uncovered (15): it reads the field `frame.count`.'
 expect 2 "$tail" sizes "$work/sizes.layout" frame
 expect 2 'struct `frame`: no fixed size, varying (11)' sizes "$work/sizes.layout" frame
 cp "$work/sizes.layout" "$work/input"
@@ -247,6 +247,42 @@ wrong '`cell` is no type' sizes "$work/wrong.layout"
 : > "$work/plain.layout"
 expect 0 '0 of 0 definitions have a fixed size.' sizes "$work/plain.layout"
 
+# Sizes that are worked out, from text and bytes; those without a value are told with their part, and end with code 2.
+cat > "$work/sums.layout" <<'SUMS'
+define rows array [4u8 * 3u8] u16
+define divided array [12u8 / (2u8 - 2u8)] u16
+define over array [9223372036854775807u64 + 1u8] u8
+define power array [2u8 * (2u8 ** 3u8)] u8
+define below array [3u8 - 5u8] u8
+define notes jagged array [head.count - 1u8] u8
+SUMS
+"$tool" assemble "$work/sums.layout" > "$work/sums.bundle"
+expect 0 '1 of 6 definitions has a fixed size.' sizes "$work/sums.layout"
+expect 0 '24 bytes, alignment 2; 12 elements of type u16, 2 bytes each' sizes "$work/sums.layout" rows
+expect 0 'Its size is `4u8 * 3u8` = 12.' sizes "$work/sums.layout" rows
+expect 0 'Its size is `4u8 * 3u8` = 12.' sizes "$work/sums.bundle" '#1'
+expect 2 'zero divisor (13): the divisor `2u8 - 2u8` of `12u8 / (2u8 - 2u8)` is 0.' sizes "$work/sums.layout" divided
+expect 2 'out of range (14): `9223372036854775807u64 + 1u8` is 9223372036854775808, over 9,223,372,036,854,775,807.' \
+  sizes "$work/sums.bundle" '#3'
+expect 2 'size `2u8 * (2u8 ** 3u8)` has no value, uncovered (15): `2u8 ** 3u8` is of kind Pow, which has none.' \
+  sizes "$work/sums.layout" power
+expect 2 'an array whose size is negative, `3u8 - 5u8` = -2.' sizes "$work/sums.layout" below
+expect 2 'Its size `head.count - 1u8` has no value, uncovered (15): it reads the field `head.count`.' \
+  sizes "$work/sums.layout" notes
+expect 2 'the divisor `2u8 - 2u8`' sizes "$work/sums.layout" divided --svg
+expect 0 'There are no fields' sizes "$work/sums.layout" rows --svg
+# A stored refusal of a value is no answer about a set.
+printf '7E 0D' > "$work/report"
+expect 3 'it says zero divisor (13), but reading went to the end' \
+  explain "$work/sums.bundle" --report "$work/report" --as-given
+printf '7E 10' > "$work/report"
+expect 3 '16 is the number of no refusal' explain "$work/sums.bundle" --report "$work/report" --as-given
+# Wrong expressions.
+for size in '4u8 *' '4u8 * 300u8' '4 x 3' '4u8 * 3u8 + 1u8' ''; do
+  printf 'define rows array [%s] u16' "$size" > "$work/wrong.layout"
+  wrong 'line 1, column ' sizes "$work/wrong.layout"
+done
+
 # The examples of sizes in README.md.
 rm -f "$work"/example-*
 awk -v work="$work" '
@@ -258,7 +294,7 @@ for example in "$work"/example-*.words; do
   examples=$((examples + 1))
   "$tool" sizes $(cat "$example") 2>&1 | cmp -s - "${example%.words}" || fail "the example $(cat "$example") of README.md"
 done
-[ "$examples" -eq 2 ] || fail "$examples examples of sizes in README.md"
+[ "$examples" -eq 5 ] || fail "$examples examples of sizes in README.md"
 
 # Pictures: to a file or to standard output; words where there is none to draw.
 expect 0 - sizes "$work/sizes.layout" cell --svg -o "$work/picture.svg"
@@ -351,6 +387,16 @@ awk 'BEGIN {
 }' > "$work/wide"
 bounded 0 '40 of 40 definitions have a fixed size.' sizes "$work/wide"
 bounded 0 '<title>f: u8, at 7999, 1 byte, alignment 1</title>' sizes "$work/wide" a39 --svg
+# And a long name that a size has very often.
+awk 'BEGIN {
+  printf "name "
+  for (n = 0; n < 4000000; n++) printf "n"
+  size = "#9"
+  for (n = 0; n < 11; n++) size = "(" size " + " size ")"
+  print " = 9 define #1 array [" size "] u8 define #2 jagged array [" size "] u8"
+}' > "$work/wide"
+bounded 0 '0 of 2 definitions have a fixed size.' sizes "$work/wide"
+grep -q 'Its size .* has no value, uncovered (15): it reads the field `nnnn*…`' "$work/printed" || fail 'a long name in a size'
 
 # What cannot be written.
 { echo 'define #1 struct {'; awk 'BEGIN { for (n = 0; n < 8000; n++) print "#65535: u8" }'; echo '}'; } > "$work/input"
@@ -396,6 +442,10 @@ pub unsafe extern "C" fn layout_report() -> u8 {
 pub unsafe extern "C" fn layout_fixed_size() -> u8 {
     abort()
 }
+#[no_mangle]
+pub unsafe extern "C" fn layout_size_value() -> u8 {
+    abort()
+}
 MUTE
 target=tools/layout-text/target
 rustc --edition 2021 -C panic=abort --crate-type lib --emit obj -o "$work/mute.o" "$work/mute.rs" &&
@@ -411,12 +461,29 @@ for sample in winch type-1-enum-forward refused-circle; do
 done
 (ulimit -c 0; "$work/mute" explain samples/winch.layout; echo $? > "$work/code") > "$work/words" 2>&1
 [ "$(cat "$work/code")" -ge 128 ] || fail 'the library without answers was not linked'
+# other FIXED VALUE: the program over a library that accepts every set, and answers so to every other call.
+other() {
+  sed "s/layout_accept() -> u8 {/layout_accept() -> u8 { return 0;/
+    s/layout_fixed_size() -> u8 {/layout_fixed_size() -> u8 { return $1;/
+    s/layout_size_value() -> u8 {/layout_size_value() -> u8 { return $2;/" "$work/mute.rs" > "$work/other.rs"
+  rustc --edition 2021 -A unreachable_code -C panic=abort --crate-type lib --emit obj -o "$work/other.o" "$work/other.rs" &&
+    rustc --edition 2021 -L "$target" --extern layout --extern layout_text -C "link-arg=$work/other.o" -o "$work/other" \
+      tools/layout-text/src/main.rs || fail 'the program over a library with other answers was not built'
+}
+# A library that answers otherwise than the evaluation of a size: no number of it is told.
+other 11 13
+for name in samples frame; do
+  "$work/other" sizes "$work/sizes.layout" $name > "$work/words" 2> "$work/printed"
+  [ $? -eq 3 ] && [ ! -s "$work/words" ] && grep -q \
+    'definition 2: the library answers zero divisor (13).* for the size of an array, and the evaluation finds uncovered (15)' \
+    "$work/printed" || fail "a value in $name that is not the evaluation's is told"
+done
+"$work/other" sizes "$work/sums.layout" below > "$work/words" 2> "$work/printed"
+[ $? -eq 3 ] && [ ! -s "$work/words" ] && grep -q 'and the evaluation finds the value -2$' "$work/printed" ||
+  fail 'a value that the library refuses is told'
+"$work/other" sizes "$work/sums.layout" divided | grep -q 'zero divisor (13)' || fail 'a number on which both agree is not told'
 # A library that answers otherwise than the walk over the set: no number of it is told.
-sed 's/layout_accept() -> u8 {/layout_accept() -> u8 { return 0;/
-  s/layout_fixed_size() -> u8 {/layout_fixed_size() -> u8 { return 12;/' "$work/mute.rs" > "$work/other.rs"
-rustc --edition 2021 -A unreachable_code -C panic=abort --crate-type lib --emit obj -o "$work/other.o" "$work/other.rs" &&
-  rustc --edition 2021 -L "$target" --extern layout --extern layout_text -C "link-arg=$work/other.o" -o "$work/other" \
-    tools/layout-text/src/main.rs || fail 'the program over a library with other answers was not built'
+other 12 13
 for name in cell frame; do
   "$work/other" sizes "$work/sizes.layout" $name > "$work/words" 2> "$work/printed"
   [ $? -eq 3 ] && [ ! -s "$work/words" ] && grep -q 'the library answers oversized (12)' "$work/printed" ||

@@ -10,6 +10,7 @@ use layout_text::read::read;
 use layout_text::report::{self, Report};
 use layout_text::show::show;
 use layout_text::sizes::Sizes;
+use layout_text::tree::*;
 
 const ROUNDS: usize = 4_000;
 
@@ -136,6 +137,92 @@ fn every_fixed_size_can_be_told() {
     assert!(
         fixed > 1_000 && refused.iter().all(|count| *count > 300),
         "{fixed}, {refused:?}"
+    );
+}
+
+/// Numbers at which values turn: small ones, and those at the ends of 64 bits.
+const TURNS: [u64; 8] = [0, 1, 2, 3, 7, u64::MAX, 1 << 63, (1 << 63) - 1];
+
+/// A literal whose bits are those of a turn, or of one of its neighbours.
+fn some_literal(random: &mut Random) -> Expr {
+    let kind = random.between(1, 8) as u8;
+    let turn = random.pick(&TURNS).wrapping_add(random.below(3) as u64);
+    let unused = 64 - 8 * literal_width(kind) as u32;
+    Expr::Literal(kind, turn << unused >> unused)
+}
+
+/// An expression of at most so many levels. One part in 30 has a kind without a value.
+fn some_size(random: &mut Random, levels: usize) -> Expr {
+    if levels == 1 || random.chance(25) {
+        return match random.chance(3) {
+            true => Expr::Sizeof(1),
+            false => some_literal(random),
+        };
+    }
+    let left = Box::new(some_size(random, levels - 1));
+    if random.chance(2) {
+        return Expr::Unary(random.between(0x24, 0x27) as u8, left);
+    }
+    let kind = match random.chance(97) {
+        true => random.pick(&[
+            0x10, 0x11, 0x12, 0x13, 0x14, 0x1B, 0x1C, 0x1D, 0x1E, 0x1F, 0x20,
+        ]),
+        false => random.between(0x10, 0x23) as u8,
+    };
+    Expr::Binary(kind, left, Box::new(some_size(random, levels - 1)))
+}
+
+/// An array of this size, jagged or not; or a struct with it as a field.
+fn some_holder(random: &mut Random, size: Expr) -> Type {
+    let array = Type::Array(Box::new(Array {
+        attributes: Attributes::default(),
+        jagged: random.chance(20),
+        size,
+        element: Type::Primitive(0x30),
+    }));
+    if random.chance(70) {
+        return array;
+    }
+    Type::Group(Box::new(Group {
+        kind: GroupKind::Struct,
+        attributes: Attributes::default(),
+        tag: None,
+        members: vec![Member {
+            name: 2,
+            value: 0,
+            member_type: array,
+        }],
+    }))
+}
+
+/// The evaluation agrees with the library on every size, and each can be told.
+#[test]
+fn every_value_can_be_told() {
+    let mut random = Random::new(6);
+    let (mut fixed, mut valued, mut refused) = (0, 0, [0; 3]);
+    for round in 0..ROUNDS * 3 {
+        let levels = 1 + round % 6;
+        let size = some_size(&mut random, levels);
+        let bundle = Bundle {
+            definitions: vec![Definition {
+                name: 1,
+                body: some_holder(&mut random, size),
+            }],
+            ..Bundle::default()
+        };
+        let bytes = encode(&bundle).expect("few enough of everything");
+        let source = Source::default();
+        let answer = Sizes::new(&bundle, &bytes, &source).answer(0);
+        let answer = answer.unwrap_or_else(|error| panic!("{error}\n{bytes:02X?}"));
+        for (count, word) in refused.iter_mut().zip(["(13)", "(14)", "(15)"]) {
+            *count += usize::from(answer.text.contains(word));
+        }
+        valued += usize::from(answer.text.contains("` = "));
+        fixed += usize::from(answer.fixed);
+    }
+    assert!(
+        fixed > 1_000 && valued > 1_000 && refused.iter().all(|count| *count > 300),
+        "{fixed}, {valued}, {refused:?}"
     );
 }
 

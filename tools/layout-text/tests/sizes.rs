@@ -153,18 +153,6 @@ fn what_varies_is_named() {
         ("define a size-union {}", "It is a size-union."),
         ("define a jagged array [2u8] u8", "It is a jagged array."),
         (
-            "define a array [-1i16] u8",
-            "It is an array whose size is negative, `-1i16`.",
-        ),
-        (
-            "define a array [b.c] u8",
-            "It is an array whose size reads the field `b.c`.",
-        ),
-        (
-            "define a array [2u8 * 3u8] u8",
-            "It is an array whose size is no literal, `2u8 * 3u8`.",
-        ),
-        (
             "define a ref b",
             "It is of type `b`, which has no definition.",
         ),
@@ -180,6 +168,271 @@ fn what_varies_is_named() {
     for (text, due) in cases {
         assert_eq!(why(text, word), due);
     }
+}
+
+#[test]
+fn a_size_that_gives_no_count_is_named() {
+    let cases = [
+        (
+            "define a array [-1i16] u8",
+            "It is an array whose size is negative, `-1i16`.",
+        ),
+        (
+            "define a array [2u8 - 3u8] u8",
+            "It is an array whose size is negative, `2u8 - 3u8` = -1.",
+        ),
+        (
+            "define a array [b.c] u8",
+            "It is an array whose size has no value, uncovered (15): it reads the field `b.c`.",
+        ),
+        (
+            "define a struct { x: ref b }\ndefine b array [4u8 / 0u8] u8",
+            "`a.x` is of type `b` (definition 1, line 2), an array whose size has no value, zero divisor (13): \
+             the divisor `0u8` of `4u8 / 0u8` is 0.",
+        ),
+        (
+            "define a struct { x: ref b }\ndefine b union { y: array [1u8 + 0xffffffffffffffff] u8 }",
+            "`a.x.y` is an array whose size `1u8 + 18446744073709551615u64` has no value, out of range (14): \
+             the literal `18446744073709551615u64` is over 9,223,372,036,854,775,807; \
+             it stands in `b` (definition 1, line 2).",
+        ),
+    ];
+    for (text, due) in cases {
+        assert_eq!(why(text, "varying (11)"), due);
+    }
+}
+
+/// The line on the size of definition 0, an array; nothing where there is none.
+fn size_line(text: &str) -> Option<String> {
+    let (words, _) = said(text);
+    let mut lines = words.lines().map(str::trim_start);
+    let line = lines.find(|line| line.starts_with("Its size "));
+    line.map(String::from)
+}
+
+#[test]
+fn a_sum_is_shown_with_its_value() {
+    let due = "\
+Definition 0 (line 1), array `a`: 24 bytes, alignment 2; 12 elements of type struct, 2 bytes each
+  Its size is `4u8 * 3u8` = 12.
+  offset  size  alignment  name   type
+       0     2          2  [0].x  u16
+";
+    assert_eq!(fixed("define a array [4u8 * 3u8] struct { x: u16 }"), due);
+    let due = "Definition 0 (line 1), ref `a`: 3 bytes, alignment 1; it is array `b`; 3 elements of type u8, 1 byte each\n";
+    assert_eq!(fixed("define a ref b define b array [7i8 / 2u8] u8"), due);
+    let due = "\
+Definition 0 (line 1), struct `a`: 8 bytes, alignment 1
+  offset  size  alignment  name  type
+       0     5          1  x     array [2u8 + 3u8] u8
+       5     3          1  y     array [(1u8 < 2u8) * 3u8] u8
+";
+    let text = "define a struct { x: array [2u8 + 3u8] u8, y: array [(1u8 < 2u8) * 3u8] u8 }";
+    assert_eq!(fixed(text), due);
+    // Elements of a count of 0 are not shown.
+    assert_eq!(
+        fixed("define a array [3u8 - 3u8] struct { x: u8 }")
+            .lines()
+            .count(),
+        2
+    );
+}
+
+#[test]
+fn each_operator_gives_its_value() {
+    let cases = [
+        ("200u8 + 100u8", 300),
+        ("-128i8 + -1i8", -129),
+        ("3u8 - 5u8", -2),
+        ("-3i16 * 5u8", -15),
+        ("7i8 / -2i8", -3),
+        ("-7i32 / 2u8", -3),
+        ("7i8 % -2i8", 1),
+        ("-7i64 % 2u8", -1),
+        ("255u8 == -1i8", 0),
+        ("255u8 == 255u64", 1),
+        ("255u8 != -1i8", 1),
+        ("3u8 != 3i8", 0),
+        ("-1i8 < 0u64", 1),
+        ("3u8 < 3u8", 0),
+        ("0u64 > -1i8", 1),
+        ("3u8 > 3u8", 0),
+        ("3u8 <= 3u8", 1),
+        ("4u8 <= 3u8", 0),
+        ("3u8 >= 3u8", 1),
+        ("3u8 >= 4u8", 0),
+    ];
+    for (size, value) in cases {
+        let due = format!("Its size is `{size}` = {value}.");
+        let told = size_line(&format!("define a jagged array [{size}] u8"));
+        assert_eq!(told, Some(due));
+    }
+}
+
+#[test]
+fn a_size_is_told_of_arrays_that_are_not_fixed() {
+    let sum = Some("Its size is `4u8 - 6u8` = -2.".to_string());
+    assert_eq!(size_line("define a jagged array [4u8 - 6u8] u8"), sum);
+    assert_eq!(
+        size_line("define a array [4u8 - 6u8] struct aligned 3 {}"),
+        sum
+    );
+    let sum = Some("Its size is `2u16 * 3u16` = 6.".to_string());
+    assert_eq!(size_line("define a array [2u16 * 3u16] ref b"), sum);
+    assert_eq!(
+        size_line("define a array [2u16 * 3u16] array [2147483648u64] u8"),
+        sum
+    );
+    assert_eq!(
+        size_line("define a array [2u16 * 3u16] array [b.c] u8"),
+        sum
+    );
+}
+
+#[test]
+fn a_size_is_told_only_where_there_is_more_to_say() {
+    // A literal says it all, unless it has no value.
+    assert_eq!(size_line("define a jagged array [3u8] u8"), None);
+    assert_eq!(size_line("define a jagged array [-3i8] u8"), None);
+    assert_eq!(size_line("define a array [3u8] ref b"), None);
+    let due =
+        "Its size has no value, out of range (14): the literal `9223372036854775808u64` is over \
+               9,223,372,036,854,775,807.";
+    assert_eq!(
+        size_line("define a jagged array [0x8000000000000000] u8"),
+        Some(due.to_string())
+    );
+    // Where the size itself is in the way, that is said once.
+    assert_eq!(size_line("define a array [4u8 - 6u8] u8"), None);
+    assert_eq!(size_line("define a array [b.c] ref nowhere"), None);
+    // The size of what it leads to is not the definition's own.
+    assert_eq!(
+        size_line("define a ref b define b jagged array [b.c] u8"),
+        None
+    );
+    assert_eq!(
+        size_line("define a struct { x: array [1u8 + 1u8] u8 }"),
+        None
+    );
+}
+
+/// Why a size has no value: what stands behind the colon, and the refusal.
+fn lack(size: &str) -> (String, String) {
+    let line = size_line(&format!("define a jagged array [{size}] u8"));
+    let line = line.unwrap_or_else(|| panic!("{size} has nothing said about it"));
+    let (_, rest) = line.split_once("has no value, ").expect(&line);
+    let (refusal, why) = rest.split_once(": ").expect(&line);
+    (refusal.to_string(), why.to_string())
+}
+
+#[test]
+fn the_part_without_a_value_is_named() {
+    let fields = [
+        ("1u8 % (b == c)", "b"),
+        ("b + (2u8 / 0i8)", "b"),
+        ("4u8 * b.c", "b.c"),
+    ];
+    for (size, field) in fields {
+        let due = format!("it reads the field `{field}`.");
+        assert_eq!(lack(size), ("uncovered (15)".to_string(), due), "{size}");
+    }
+    let kinds = [
+        ("(1u8 / 0u8) ** 2u8", "(1u8 / 0u8) ** 2u8", "Pow"),
+        ("1u8 + !(1u8 / 0u8)", "!(1u8 / 0u8)", "Not"),
+        ("alignof(b) / 0u8", "alignof(b)", "Alignof"),
+    ];
+    for (size, part, kind) in kinds {
+        let due = format!("`{part}` is of kind {kind}, which has none.");
+        assert_eq!(lack(size), ("uncovered (15)".to_string(), due), "{size}");
+    }
+    let divided = [
+        ("1u8 % (2u8 - 2u8)", "2u8 - 2u8", "1u8 % (2u8 - 2u8)"),
+        ("(2u8 / 0i8) + b", "0i8", "2u8 / 0i8"),
+    ];
+    for (size, divisor, part) in divided {
+        let due = format!("the divisor `{divisor}` of `{part}` is 0.");
+        assert_eq!(lack(size), ("zero divisor (13)".to_string(), due), "{size}");
+    }
+}
+
+#[test]
+fn a_part_outside_the_range_is_named_with_its_number() {
+    let (over, below) = (
+        "over 9,223,372,036,854,775,807.",
+        "below -9,223,372,036,854,775,808.",
+    );
+    let ranges = [
+        ("9223372036854775807u64 + 1u8", "9223372036854775808", over),
+        (
+            "-9223372036854775808i64 - 1u8",
+            "-9223372036854775809",
+            below,
+        ),
+        (
+            "-9223372036854775808i64 / -1i8",
+            "9223372036854775808",
+            over,
+        ),
+        (
+            "9223372036854775807u64 * -2i8",
+            "-18446744073709551614",
+            below,
+        ),
+    ];
+    for (size, value, beyond) in ranges {
+        let due = format!("`{size}` is {value}, {beyond}");
+        assert_eq!(lack(size), ("out of range (14)".to_string(), due), "{size}");
+    }
+    for size in [
+        "-9223372036854775808i64 % -1i8",
+        "9223372036854775807 + 0u8",
+    ] {
+        assert!(size_line(&format!("define a jagged array [{size}] u8"))
+            .is_some_and(|line| line.contains(" = ")));
+    }
+}
+
+/// A size of so many levels of Add.
+fn doubled(operand: &str, levels: usize) -> String {
+    (0..levels).fold(operand.to_string(), |size, _| format!("({size} + {size})"))
+}
+
+#[test]
+fn long_sizes_are_shown_from_their_start() {
+    let row = |count: usize| vec!["(1u8 + 1u8)"; count].join(" * ");
+    // Four operands of 11 letters, three signs with blanks: 53 letters; seven are 95.
+    assert_eq!(
+        size_line(&format!("define a jagged array [{}] u8", row(4))),
+        Some(format!("Its size is `{}` = 16.", row(4)))
+    );
+    let shown = size_line(&format!("define a jagged array [{}] u8", row(7))).unwrap();
+    assert_eq!(shown, format!("Its size is `{}…` = 128.", &row(7)[..80]));
+    let table = fixed(&format!("define a struct {{ x: array [{}] u8 }}", row(7)));
+    assert!(
+        table.contains(&format!("array [{}…] u8", &row(7)[..80])),
+        "{table}"
+    );
+    // A long name, once in the text and often in a size, by its number.
+    let long = "n".repeat(3_000_000);
+    let text = format!(
+        "name {long} = 9 define a jagged array [{}] u8",
+        doubled("#9", 12)
+    );
+    assert!(said(&text).0.len() < 1_000);
+}
+
+#[test]
+fn the_deepest_and_the_longest_size() {
+    let deep = format!("{}1u8{}", "(1u8 + ".repeat(21), ")".repeat(21));
+    assert_eq!(
+        size_line(&format!("define a jagged array [1u8 + {deep}] u8"))
+            .map(|line| line.ends_with("` = 23.")),
+        Some(true)
+    );
+    // As many literals as a bundle has room for: a tree of 13 levels of Add.
+    let size = doubled("1u8", 13);
+    let text = format!("define a array [{size}] u8 define b struct {{ x: ref a }}");
+    assert!(fixed(&text).contains("8192 bytes, alignment 1; 8192 elements"));
 }
 
 #[test]
@@ -330,6 +583,9 @@ fn pictures_have_a_box_for_each_field_and_gap() {
         assert_eq!(drawn.matches(due).count(), 1, "{due}\n{drawn}");
     }
     assert!(drawn.contains("fill=\"url(#hatch)\""));
+    // A count that is worked out is drawn as the same literal is.
+    let sum = picture("define a struct aligned 8 { x: u8, y: array [7u8 % 4u8] u32, z: u8 }");
+    assert_eq!(sum.replace("7u8 % 4u8", "3u16"), drawn);
     // Each member of a union in a row of its own.
     let drawn = picture("define a union { x: u8, y: u32, z: struct {} }");
     assert_eq!(check_picture(&drawn), 3);

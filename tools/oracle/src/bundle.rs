@@ -20,9 +20,12 @@ pub const OUTPUT_TOO_SMALL: Refusal = 9;
 pub const MISALIGNED: Refusal = 10;
 pub const VARYING: Refusal = 11;
 pub const OVERSIZED: Refusal = 12;
+pub const ZERO_DIVISOR: Refusal = 13;
+pub const OUT_OF_RANGE: Refusal = 14;
+pub const UNCOVERED: Refusal = 15;
 
 /// Words of the refusals, by number.
-pub const WORDS: [&str; 13] = [
+pub const WORDS: [&str; 16] = [
     "",
     "overlong",
     "short",
@@ -36,6 +39,9 @@ pub const WORDS: [&str; 13] = [
     "misaligned",
     "varying",
     "oversized",
+    "zero divisor",
+    "out of range",
+    "uncovered",
 ];
 
 #[derive(Clone, Debug, PartialEq, Eq)]

@@ -1,9 +1,11 @@
 //! Size, alignment and field offsets of definitions that never vary: a second
-//! reading of request L1. All reached parts are listed first; each refusal then
-//! looks through the whole list, and sizes are worked out at the end.
+//! reading of request L1, with the counts of request L2. All reached parts are listed
+//! first; each refusal then looks through the whole list, and sizes are worked out at
+//! the end.
 
 use crate::bundle::*;
 use crate::reader::{first_places, leads};
+use crate::value::value;
 use std::collections::HashMap;
 
 pub const SIZE_LIMIT: u128 = 4_294_967_295;
@@ -109,16 +111,9 @@ fn varies(part: &Type, places: &HashMap<Name, usize>) -> bool {
     }
 }
 
-/// The value of a literal that is not negative.
+/// The value of the size where there is one that is not negative.
 fn count(size: &Expr) -> Option<u64> {
-    let Expr::Literal(kind, bits) = size else {
-        return None;
-    };
-    let sign = 8 * literal_width(*kind) - 1;
-    match *kind >= 5 && bits >> sign == 1 {
-        true => None,
-        false => Some(*bits),
-    }
+    u64::try_from(value(size).ok()?).ok()
 }
 
 fn plain(size: u64, alignment: u64) -> Fixed {
@@ -140,7 +135,7 @@ fn measured(part: &Type, known: &HashMap<Name, Fixed>) -> Result<Fixed, Refusal>
         Type::TypeRef(name) => Ok(known[name].clone()),
         Type::Array(_, _, size, element) => {
             let one = measured(element, known)?;
-            let total = u128::from(count(size).expect("a literal")) * u128::from(one.size);
+            let total = u128::from(count(size).expect("a count")) * u128::from(one.size);
             Ok(plain(within(total)?, one.alignment))
         }
         Type::Struct(own, list) => in_a_row(own, &all(list, known)?),

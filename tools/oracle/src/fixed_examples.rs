@@ -1,4 +1,5 @@
-//! Examples of request L1 with answers that were worked out by hand.
+//! Examples of request L1, with the counts of request L2, and answers that were worked
+//! out by hand.
 
 use crate::bundle::*;
 use crate::fixed::{answer_bytes, fixed_size, Fixed};
@@ -34,6 +35,7 @@ pub fn examples() -> List {
     attributes(&mut list);
     unions(&mut list);
     arrays(&mut list);
+    counts_by_sums(&mut list);
     references(&mut list);
     wide_alignments(&mut list);
     sizes_at_the_limit(&mut list);
@@ -234,13 +236,48 @@ fn arrays(list: &mut List) {
     alone(list, sized(Expr::Literal(8, 0x7F), U8), fixed(127, 1, &[]));
     alone(list, sized(Expr::Literal(4, 0xFF), U8), fixed(255, 1, &[]));
     alone(list, sized(Expr::Literal(5, 0), U8), fixed(0, 1, &[]));
-    for count in [1 << 63, u64::MAX] {
-        alone(list, array(count, empty(PLAIN)), fixed(0, 1, &[]));
-        alone(list, array(count, array(0, U64)), fixed(0, 8, &[]));
-        alone(list, array(count, U8), Err(12));
-    }
+    let most = (1 << 63) - 1;
+    alone(list, array(most, empty(PLAIN)), fixed(0, 1, &[]));
+    alone(list, array(most, array(0, U64)), fixed(0, 8, &[]));
+    alone(list, array(most, U8), Err(12));
     let signed = Expr::Literal(5, (1 << 63) - 1);
     alone(list, sized(signed, empty(aligned(4))), fixed(0, 4, &[]));
+}
+
+/// Sums as counts, each with its value.
+fn counts_by_sums(list: &mut List) {
+    let byte = |bits| Box::new(Expr::Literal(4, bits));
+    let signed = |bits| Box::new(Expr::Literal(8, bits));
+    let binary = Expr::Binary;
+    let sums = [
+        (binary(0x12, byte(4), byte(3)), 12),
+        (binary(0x10, byte(255), byte(1)), 256),
+        (binary(0x11, byte(7), byte(7)), 0),
+        (binary(0x13, byte(7), byte(2)), 3),
+        (binary(0x13, signed(0xF9), signed(0xFE)), 3),
+        (binary(0x14, byte(7), byte(4)), 3),
+        (binary(0x1D, byte(1), byte(2)), 1),
+        (binary(0x1D, byte(2), byte(1)), 0),
+        (binary(0x12, signed(0xFF), signed(0xFE)), 2),
+    ];
+    for (sum, count) in sums {
+        alone(list, sized(sum.clone(), U16), fixed(2 * count, 2, &[]));
+        let offsets = [0, count as u32];
+        let body = structure(PACKED, vec![sized(sum, U8), U32]);
+        alone(list, body, fixed(count + 4, 1, &offsets));
+    }
+    let most = || Box::new(Expr::Literal(2, MOST));
+    let exact = binary(0x12, most(), byte(1));
+    alone(list, sized(exact, U8), fixed(MOST, 1, &[]));
+    alone(list, sized(binary(0x10, most(), byte(1)), U8), Err(12));
+    let half = || Box::new(Expr::Literal(1, 1 << 62));
+    let over = || binary(0x10, half(), half());
+    alone(list, sized(over(), empty(PLAIN)), Err(11));
+    let back = binary(0x11, Box::new(over()), byte(1));
+    alone(list, sized(back, empty(PLAIN)), Err(11));
+    let within = binary(0x11, half(), byte(1));
+    let within = binary(0x10, half(), Box::new(within));
+    alone(list, sized(within, empty(aligned(4))), fixed(0, 4, &[]));
 }
 
 fn references(list: &mut List) {
@@ -391,8 +428,14 @@ fn counts_that_vary(list: &mut List) {
         Expr::FieldRef(vec![1, 2, 3, 4]),
         Expr::Sizeof(1),
         Expr::Alignof(NOBODY),
-        Expr::Binary(0x10, three(), three()),
+        Expr::Unary(0x25, three()),
         Expr::Unary(0x27, three()),
+        Expr::Binary(0x15, three(), three()),
+        Expr::Binary(0x13, three(), Box::new(Expr::Literal(4, 0))),
+        Expr::Binary(0x11, three(), Box::new(Expr::Literal(4, 4))),
+        Expr::Binary(0x12, three(), Box::new(Expr::Literal(1, (1 << 63) - 1))),
+        Expr::Literal(1, 1 << 63),
+        Expr::Literal(1, u64::MAX),
         Expr::Literal(5, u64::MAX),
         Expr::Literal(5, 1 << 63),
         Expr::Literal(6, 0xFFFF_FFFF),

@@ -37,4 +37,6 @@ pub mod reference;
 pub mod report;
 pub mod repr_c;
 pub mod scan;
+pub mod value;
+pub mod value_examples;
 pub mod work;

@@ -7,7 +7,8 @@ use layout_oracle::fixed_cases::{fixed_cases, FixedCase};
 use layout_oracle::limits::edge_cases;
 use layout_oracle::reader;
 use layout_oracle::report::{program_bytes, report_bytes};
-use layout_oracle::{bundle, fixed_examples, original, reference, repr_c, work};
+use layout_oracle::value::value_answer;
+use layout_oracle::{bundle, fixed_examples, original, reference, repr_c, value_examples, work};
 use std::io::{self, Read, Write};
 use std::process::{Command, ExitCode, Stdio};
 use std::time::Instant;
@@ -17,6 +18,7 @@ const USAGE: &str = "usage:
   oracle renumber < bundle > bundle
   oracle chain FROM TO < bundle
   oracle fixed DEFINITION < bundle
+  oracle value DEFINITION < bundle
   oracle self SEED COUNT
   oracle program PATH SEED COUNT
   oracle cases SEED COUNT
@@ -33,6 +35,7 @@ fn main() -> ExitCode {
         ["renumber"] => renumber(),
         ["chain", from, to] => number(from).zip(number(to)).map(|(f, t)| chain(f, t)),
         ["fixed", definition] => number(definition).map(fixed),
+        ["value", definition] => number(definition).map(value),
         ["self", seed, count] => number(seed)
             .zip(number(count))
             .map(|(seed, count)| finish(|| compare_self(seed, count as usize))),
@@ -114,6 +117,15 @@ fn fixed(definition: u64) -> ExitCode {
     ExitCode::SUCCESS
 }
 
+fn value(definition: u64) -> ExitCode {
+    let definition = usize::try_from(definition).unwrap_or(usize::MAX);
+    match value_answer(&input(), definition) {
+        Err(refusal) => println!("refused {refusal}"),
+        Ok(found) => println!("{found}"),
+    }
+    ExitCode::SUCCESS
+}
+
 fn compare_repr_c(seed: u64, count: usize) -> ExitCode {
     let lines = String::from_utf8(input()).expect("text");
     let answer = |bytes: &[u8], definition| fixed_answer(bytes, definition, usize::MAX);
@@ -147,6 +159,8 @@ fn finish(run: impl FnOnce() -> Result<Tally, Difference>) -> ExitCode {
 fn compare_self(seed: u64, count: usize) -> Result<Tally, Difference> {
     let checked = fixed_examples::check().unwrap_or_else(|text| panic!("{text}"));
     println!("examples of fixed sizes  {checked}");
+    let checked = value_examples::check().unwrap_or_else(|text| panic!("{text}"));
+    println!("examples of values       {checked}");
     compare_readings(seed, count)
 }
 
