@@ -9,21 +9,22 @@
  *
  * What happens to the output: an accepted call writes `*written` items from the
  * start of the buffer and leaves the rest of the buffer as it was. A refused
- * call leaves the whole buffer, `*written` and, for layout_fixed_size, `*size` and
- * `*alignment` as they were. The bundle is only read. Bundle, buffer, `written`,
- * `size` and `alignment` must not overlap.
+ * call leaves the whole buffer, `*written`, for layout_fixed_size `*size` and
+ * `*alignment`, and for layout_size_value `*value` as they were. The bundle is only
+ * read. Bundle, buffer, `written`, `size`, `alignment` and `value` must not overlap.
  *
  * A pointer to a bundle or a buffer may be null only if its length is 0;
- * `written`, `size` and `alignment` may never be null.
+ * `written`, `size`, `alignment` and `value` may never be null.
  *
  * Byte order: in the bytes of a bundle and of a report every number of more than
  * one byte is little-endian. The names that layout_chain takes and writes, the
- * numbers that layout_fixed_size takes and writes, and `*written`, are numbers of C
- * in the machine's own order. docs/FORMAT.md has both formats byte by byte.
+ * numbers that layout_fixed_size and layout_size_value take and write, and
+ * `*written`, are numbers of C in the machine's own order. docs/FORMAT.md has both
+ * formats byte by byte.
  *
  * Alignment: bundles and buffers of bytes may start at any address. `list` must be
  * aligned as uint16_t, `offsets` as uint32_t, `size` and `alignment` as uint64_t,
- * and `written` as size_t.
+ * `value` as int64_t, and `written` as size_t.
  *
  * Threads: the library has no variables of its own, no heap and no locks, and keeps
  * nothing from one call to the next. Calls may run at the same time. Several may
@@ -59,22 +60,35 @@ extern "C" {
 #define LAYOUT_STACK_BYTES 262144
 
 /* The answers. 1 comes before all others. 2 to 6 are found while the bytes are
- * read front to back, and the first fault counts. Then come 7 and 8, then, for
- * layout_fixed_size alone, 10, 11 and 12, and 9 last. */
+ * read front to back, and the first fault counts. Then come 7 and 8, then 10 to 15,
+ * which only layout_fixed_size and layout_size_value have, and 9 last. Each call has
+ * these, in the order in which they count:
+ *
+ *   layout_accept      1 to 8
+ *   layout_report      1 to 8, 9
+ *   layout_renumber    1 to 8, 9
+ *   layout_chain       1 to 8, 9
+ *   layout_fixed_size  1 to 8, 10, 11, 12, 9
+ *   layout_size_value  1 to 8, 11, then the first of 13, 14 and 15 that is met
+ */
 enum layout_refusal {
   LAYOUT_ACCEPTED = 0,
-  LAYOUT_OVERLONG = 1,    /* overlong: more than 32,768 bytes */
-  LAYOUT_SHORT = 2,       /* short: the bytes end where more are due */
-  LAYOUT_STRANGER = 3,    /* stranger: a kind byte that may not stand there */
-  LAYOUT_OFF_SCALE = 4,   /* off scale: packed or jagged over 1, edge kind over 3 */
-  LAYOUT_CROWDED = 5,     /* crowded: over 256 definitions or 1,024 edges */
-  LAYOUT_BURIED = 6,      /* buried: a type or expression due at depth 25 */
-  LAYOUT_TRAILING = 7,    /* trailing: bytes after the last record due */
-  LAYOUT_CIRCLE = 8,      /* circle: a definition leads back to itself */
-  LAYOUT_NARROW = 9,      /* narrow: the output is longer than the buffer lent */
-  LAYOUT_MISALIGNED = 10, /* misaligned: an aligned that is neither 0 nor a power of 2 */
-  LAYOUT_VARYING = 11,    /* varying: no such definition, or one without a fixed size */
-  LAYOUT_OVERSIZED = 12   /* oversized: a size or an offset over 4,294,967,295 */
+  LAYOUT_OVERLONG = 1,      /* overlong: more than 32,768 bytes */
+  LAYOUT_SHORT = 2,         /* short: the bytes end where more are due */
+  LAYOUT_STRANGER = 3,      /* stranger: a kind byte that may not stand there */
+  LAYOUT_OFF_SCALE = 4,     /* off scale: packed or jagged over 1, edge kind over 3 */
+  LAYOUT_CROWDED = 5,       /* crowded: over 256 definitions or 1,024 edges */
+  LAYOUT_BURIED = 6,        /* buried: a type or expression due at depth 25 */
+  LAYOUT_TRAILING = 7,      /* trailing: bytes after the last record due */
+  LAYOUT_CIRCLE = 8,        /* circle: a definition leads back to itself */
+  LAYOUT_NARROW = 9,        /* narrow: the output is longer than the buffer lent */
+  LAYOUT_MISALIGNED = 10,   /* misaligned: an aligned that is neither 0 nor a power of 2 */
+  LAYOUT_VARYING = 11,      /* varying: no such definition; or one without a fixed size,
+                               or for layout_size_value one that is no array */
+  LAYOUT_OVERSIZED = 12,    /* oversized: a size or an offset over 4,294,967,295 */
+  LAYOUT_ZERO_DIVISOR = 13, /* zero divisor: a Div or Mod by 0 */
+  LAYOUT_OUT_OF_RANGE = 14, /* out of range: a value below -2^63 or over 2^63 - 1 */
+  LAYOUT_UNCOVERED = 15     /* uncovered: an expression of a kind without a value */
 };
 
 /* Whether the bundle is sound: refusals 1 to 8 or 0. It says nothing about
@@ -110,9 +124,10 @@ uint8_t layout_chain(const uint8_t *bundle, size_t bundle_len, uint16_t from,
  * without gaps; a union puts its members at 0 and has the size of the largest. Both
  * are aligned as the member with the largest alignment, and to 1 if packed or
  * without members; an `aligned` above that replaces it, packed or not. Their size is
- * rounded up to a multiple of their alignment. An array is its count times the size
- * of its element and is aligned as that; its own attributes do not count. A TypeRef
- * is the first definition of its name.
+ * rounded up to a multiple of their alignment. An array is its count, which is the
+ * value of its size (see layout_size_value), times the size of its element and is
+ * aligned as that; its own attributes do not count. A TypeRef is the first definition
+ * of its name.
  *
  * The offsets are those of the struct that the definition is, or that it leads to as
  * a TypeRef, by more TypeRefs too if each is the whole of its definition; in the
@@ -127,8 +142,8 @@ uint8_t layout_chain(const uint8_t *bundle, size_t bundle_len, uint16_t from,
  *       array's own does not count
  *   11  the bundle has no definition of this number; or something reached is an
  *       enum, a size-discriminated union, a jagged array, a TypeRef to a name
- *       without a definition, or an array whose size is anything but a literal that
- *       is not negative
+ *       without a definition, or an array whose size has no value or a negative one;
+ *       why it has none, 13, 14 or 15, this call does not say
  *   12  something reached has a size, or a field with an offset, over 4,294,967,295
  *    9  there are more offsets than `offsets_len`
  *
@@ -138,6 +153,32 @@ uint8_t layout_fixed_size(const uint8_t *bundle, size_t bundle_len,
                           size_t definition, uint32_t *offsets,
                           size_t offsets_len, uint64_t *size,
                           uint64_t *alignment, size_t *written);
+
+/* The value of the size expression of a definition that is an array, jagged or not.
+ * `definition` is its number, from 0 in the bundle's order.
+ *
+ * The value is worked out in exact whole numbers, the left side of an operator first.
+ * A literal is its number: U64, U32, U16 and U8 without sign, I64, I32, I16 and I8 by
+ * two's complement. Add, Sub and Mul are exact; Div cuts toward zero, and Mod has the
+ * sign of the dividend, so that -7 / 2 is -3 and -7 % 2 is -1. Eq, Ne, Lt, Gt, Le and
+ * Ge are 1 where they hold and 0 where not. Refusals 1 to 8, and then:
+ *
+ *   11  the bundle has no definition of this number, or it is no array; a TypeRef to
+ *       an array is none
+ *
+ * or the first of these that is met, where each part is tested for its kind before its
+ * operands are worked out, and for the rest after them:
+ *
+ *   13  the right side of a Div or Mod is 0
+ *   14  a value is below -2^63 or over 2^63 - 1: a U64 literal, also where it is only
+ *       compared, or what an operator gives, as -2^63 / -1; -2^63 % -1 is 0
+ *   15  any other kind: FieldRef, Sizeof, Alignof, Pow, BitAnd, BitOr, BitXor,
+ *       LeftShift, RightShift, And, Or, Xor, BitNot, Neg, Not, Popcount
+ *
+ * Where the left side has a value, the right side is worked out too, whatever that
+ * value is: 0 * (1 / 0) is refused with 13. */
+uint8_t layout_size_value(const uint8_t *bundle, size_t bundle_len,
+                          size_t definition, int64_t *value);
 
 #ifdef __cplusplus
 }

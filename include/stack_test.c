@@ -3,7 +3,8 @@
  * Usage: stack_test           every call with exactly that stack; a call that needs more ends the test with exit code 1
  *        stack_test measure   the most that each call took, and on which bundle
  * The deepest bundles are lines of definitions, each leading to the next from deep inside its type. They differ in what the
- * definitions are, what is inside them, how deep, what stands first and so asks about them, and whether there are edges. */
+ * definitions are, what is inside them, how deep, what stands first and so asks about them, what stands last, and whether there are
+ * edges. */
 #define _GNU_SOURCE
 #include "layout.h"
 #include <pthread.h>
@@ -85,6 +86,43 @@ static void put_reference(unsigned owner, unsigned field) {
   put(field, 2);
 }
 
+/* The last definition of a line: none, so that its name leads nowhere, or one by which all of the line can have a fixed size. The sums
+ * are arrays whose size goes down to the deepest level, on its left or on its right. */
+enum { OPEN, CLOSED, LEFT_SUM, RIGHT_SUM, ENDS };
+static const char *const end_names[] = {"", ", closed", ", closed by a sum on the left", ", closed by a sum on the right"};
+static const unsigned end_lengths[] = {0, 4, 83, 83};
+
+static void put_one(void) {
+  put(0x04, 1);
+  put(1, 1);
+}
+
+/* Adds of 1 and 1, each inside the one before. The array has depth 1 and the last literals the greatest depth. */
+static void put_sum(int on_the_right) {
+  int level;
+  for (level = 2; level < LAYOUT_DEPTH_LIMIT; level++) {
+    put(0x10, 1);
+    if (on_the_right) {
+      put_one();
+    }
+  }
+  put_one();
+  for (level = 2; level < LAYOUT_DEPTH_LIMIT && !on_the_right; level++) {
+    put_one();
+  }
+}
+
+static void put_end(int end, unsigned name) {
+  put(0x61, 1);
+  put(name, 2);
+  if (end != CLOSED) {
+    put_head(0x44);
+    put(0, 1);
+    put_sum(end == RIGHT_SUM);
+  }
+  put(0x30, 1);
+}
+
 /* What differs between the bundles. */
 struct shape {
   int start;
@@ -93,8 +131,7 @@ struct shape {
   int levels;
   unsigned edges;
   size_t limit;
-  /* Whether the last name of the line has a definition, so that all of it can have a fixed size. */
-  unsigned closed;
+  int end;
 };
 
 /* The first definitions, of which one leads to `next`; how many they are. */
@@ -166,8 +203,12 @@ static void put_definition(const struct shape *shape, unsigned name) {
   put_type_ref(name + 1);
 }
 
-/* A line of as many definitions as there can be; the last leads to a name without definition, or to a U8. */
+/* The definition of which a value is asked: the last, which is a sum, or the first. */
+static size_t valued;
+
+/* A line of as many definitions as there can be; the last leads to a name without definition, to a U8 or to a sum. */
 static void make_bundle(const struct shape *shape) {
+  const unsigned closed = shape->end != OPEN;
   unsigned definitions, first, edge;
   size_t before = 0;
   length = 0;
@@ -177,21 +218,20 @@ static void make_bundle(const struct shape *shape) {
   put(0, 2);
   definitions = put_start(shape, 10);
   first = definitions;
-  while (definitions < LAYOUT_DEFINITION_LIMIT - shape->closed) {
+  while (definitions < LAYOUT_DEFINITION_LIMIT - closed) {
     before = length;
     put_definition(shape, 10 + definitions - first);
-    if (length + 6 * shape->edges + 4 * shape->closed > shape->limit) {
+    if (length + 6 * shape->edges + end_lengths[shape->end] > shape->limit) {
       length = before;
       break;
     }
     definitions++;
   }
-  if (shape->closed) {
-    put(0x61, 1);
-    put(10 + definitions - first, 2);
-    put(0x30, 1);
+  if (closed) {
+    put_end(shape->end, 10 + definitions - first);
     definitions++;
   }
+  valued = shape->end >= LEFT_SUM ? definitions - 1 : 0;
   for (edge = 0; edge < shape->edges; edge++) {
     put(0x62, 1);
     put(edge == 0 ? 900 : 1000 + edge, 2);
@@ -202,8 +242,8 @@ static void make_bundle(const struct shape *shape) {
   bytes[2] = (uint8_t)(definitions >> 8);
 }
 
-enum { ACCEPT, REPORT, RENUMBER, CHAIN, FIXED_SIZE, CALLS };
-static const char *const call_names[] = {"accept", "report", "renumber", "chain", "fixed size"};
+enum { ACCEPT, REPORT, RENUMBER, CHAIN, FIXED_SIZE, SIZE_VALUE, CALLS };
+static const char *const call_names[] = {"accept", "report", "renumber", "chain", "fixed size", "size value"};
 
 static uint8_t *region;
 static uint8_t *out;
@@ -217,6 +257,7 @@ static char where[256];
 static void make_call(void) {
   size_t written = 0;
   uint64_t size = 0, alignment = 0;
+  int64_t value = 0;
   switch (call) {
   case ACCEPT:
     answer = layout_accept(bytes, length);
@@ -230,8 +271,11 @@ static void make_call(void) {
   case CHAIN:
     answer = layout_chain(bytes, length, 900, 1, list, 1025, &written);
     break;
-  default:
+  case FIXED_SIZE:
     answer = layout_fixed_size(bytes, length, 0, offsets, LAYOUT_FIELD_LIMIT, &size, &alignment, &written);
+    break;
+  default:
+    answer = layout_size_value(bytes, length, valued, &value);
   }
 }
 
@@ -285,7 +329,7 @@ static void in_thread(void) {
 }
 
 static size_t most[CALLS];
-static char most_where[CALLS][128];
+static char most_where[CALLS][160];
 
 /* The lowest place of the stack that is no longer painted. All below it is painted still. */
 static uint8_t *lowest_used(void) {
@@ -313,8 +357,8 @@ static void try_bundle(const char *name, int first) {
     snprintf(where, sizeof where, "more than %lu bytes of stack: %s, %s\n", (unsigned long)STACK_BYTES,
              call_names[call], name);
     in_thread();
-    /* What varies has no fixed size. */
-    if (answer != 0 && (call != FIXED_SIZE || answer != LAYOUT_VARYING)) {
+    /* What varies has no fixed size, and what is no array no value. */
+    if (answer != 0 && (call < FIXED_SIZE || answer != LAYOUT_VARYING || (call == SIZE_VALUE && valued != 0))) {
       fprintf(stderr, "%s refuses with %d: %s\n", call_names[call], answer, name);
       exit(2);
     }
@@ -325,13 +369,13 @@ static void try_bundle(const char *name, int first) {
 }
 
 static void try_shape(struct shape *shape) {
-  char name[128];
-  for (shape->closed = 0; shape->closed < 2; shape->closed++) {
+  char name[160];
+  for (shape->end = OPEN; shape->end < ENDS; shape->end++) {
     make_bundle(shape);
     snprintf(name, sizeof name, "%s, %d levels of %s in %s, %u edges, %lu bytes%s", start_names[shape->start],
              shape->levels, kind_names[shape->inside], kind_names[shape->outside], shape->edges,
-             (unsigned long)length, shape->closed ? ", closed" : "");
-    try_bundle(name, shape->closed ? FIXED_SIZE : ACCEPT);
+             (unsigned long)length, end_names[shape->end]);
+    try_bundle(name, shape->end == OPEN ? ACCEPT : FIXED_SIZE);
   }
 }
 

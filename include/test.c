@@ -194,6 +194,239 @@ static void check_fixed_size_refusals(void) {
   check_refused(bundle, 0, 5, LAYOUT_CIRCLE, "circle before misaligned");
 }
 
+/* The value of an array's size, with noise around it and before. */
+struct guarded {
+  int64_t before;
+  int64_t value;
+  int64_t after;
+};
+static const struct guarded untouched = {-77, -78, -79};
+
+/* Whether the guards stand and the value is this one. */
+static int holds(const struct guarded *guarded, int64_t value) {
+  return guarded->before == untouched.before && guarded->value == value &&
+         guarded->after == untouched.after;
+}
+
+/* A definition that is an array of U8, with room for its size at SIZED_AT. */
+enum { SIZED_AT = 21, SIZED_ROOM = 80 };
+static const uint8_t sized[SIZED_AT] = {0x60, 1, 0, 0, 0, 0, 0, 0x61, 1, 0, 0x44,
+                                        0,    0, 0, 0, 0, 0, 0, 0,    0, 0};
+
+/* Asks for the value of a size of these bytes, in an array that is jagged or not. */
+static uint8_t ask_value(const uint8_t *size, size_t length, uint8_t is_jagged,
+                         struct guarded *guarded) {
+  uint8_t bundle[SIZED_AT + SIZED_ROOM + 1];
+  memcpy(bundle, sized, SIZED_AT);
+  bundle[SIZED_AT - 1] = is_jagged;
+  memcpy(bundle + SIZED_AT, size, length);
+  bundle[SIZED_AT + length] = 0x30;
+  *guarded = untouched;
+  return layout_size_value(bundle, SIZED_AT + length + 1, 0, &guarded->value);
+}
+
+struct valued {
+  const char *what;
+  int64_t value;
+  size_t length;
+  uint8_t size[32];
+};
+
+#define LEAST (-INT64_C(9223372036854775807) - 1)
+#define GREATEST INT64_C(9223372036854775807)
+#define GREATEST_BYTES 0xFF, 0xFF, 0xFF, 0xFF, 0xFF, 0xFF, 0xFF, 0x7F
+#define LEAST_BYTES 0, 0, 0, 0, 0, 0, 0, 0x80
+
+static const struct valued literals[] = {
+    {"U64", GREATEST, 9, {1, GREATEST_BYTES}},
+    {"U32", INT64_C(4294967295), 5, {2, 0xFF, 0xFF, 0xFF, 0xFF}},
+    {"U16", 65535, 3, {3, 0xFF, 0xFF}},
+    {"U8", 255, 2, {4, 0xFF}},
+    {"I64", LEAST, 9, {5, LEAST_BYTES}},
+    {"I32", -2, 5, {6, 0xFE, 0xFF, 0xFF, 0xFF}},
+    {"I16", -32768, 3, {7, 0, 0x80}},
+    {"I8", -1, 2, {8, 0xFF}},
+};
+
+static const struct valued operators[] = {
+    {"4 * 3", 12, 5, {0x12, 4, 4, 4, 3}},
+    {"200 + 100", 300, 5, {0x10, 4, 200, 4, 100}},
+    {"3 - 5", -2, 5, {0x11, 4, 3, 4, 5}},
+    {"-7 / 2", -3, 5, {0x13, 8, 0xF9, 4, 2}},
+    {"7 / -2", -3, 5, {0x13, 4, 7, 8, 0xFE}},
+    {"-7 % 2", -1, 5, {0x14, 8, 0xF9, 4, 2}},
+    {"7 % -2", 1, 5, {0x14, 4, 7, 8, 0xFE}},
+    {"-2^63 % -1", 0, 12, {0x14, 5, LEAST_BYTES, 8, 0xFF}},
+    {"3 == 3", 1, 5, {0x1B, 4, 3, 4, 3}},
+    {"255 == -1", 0, 5, {0x1B, 4, 0xFF, 8, 0xFF}},
+    {"3 != 3", 0, 5, {0x1C, 4, 3, 4, 3}},
+    {"-1 < 0", 1, 5, {0x1D, 8, 0xFF, 4, 0}},
+    {"3 < 3", 0, 5, {0x1D, 4, 3, 4, 3}},
+    {"0 > -1", 1, 5, {0x1E, 4, 0, 8, 0xFF}},
+    {"3 > 3", 0, 5, {0x1E, 4, 3, 4, 3}},
+    {"3 <= 3", 1, 5, {0x1F, 4, 3, 4, 3}},
+    {"3 >= 4", 0, 5, {0x20, 4, 3, 4, 4}},
+    {"(2^63 - 1) - 1 + 1", GREATEST, 15, {0x10, 0x11, 1, GREATEST_BYTES, 4, 1, 4, 1}},
+};
+
+static void check_values(const struct valued *list, size_t count) {
+  for (size_t i = 0; i < count; i++) {
+    struct guarded guarded;
+    for (uint8_t is_jagged = 0; is_jagged < 2; is_jagged++) {
+      const uint8_t number = ask_value(list[i].size, list[i].length, is_jagged, &guarded);
+      check(number == LAYOUT_ACCEPTED && holds(&guarded, list[i].value), list[i].what);
+    }
+  }
+}
+
+struct refused {
+  const char *what;
+  uint8_t number;
+  size_t length;
+  uint8_t size[32];
+};
+
+static const struct refused without_value[] = {
+    {"1 / 0", LAYOUT_ZERO_DIVISOR, 5, {0x13, 4, 1, 4, 0}},
+    {"1 % 0", LAYOUT_ZERO_DIVISOR, 5, {0x14, 4, 1, 4, 0}},
+    {"0 * (1 / 0)", LAYOUT_ZERO_DIVISOR, 8, {0x12, 4, 0, 0x13, 4, 1, 4, 0}},
+    {"-2^63 / 0", LAYOUT_ZERO_DIVISOR, 12, {0x13, 5, LEAST_BYTES, 4, 0}},
+    {"2^63", LAYOUT_OUT_OF_RANGE, 9, {1, LEAST_BYTES}},
+    {"2^63 > 0", LAYOUT_OUT_OF_RANGE, 12, {0x1E, 1, LEAST_BYTES, 4, 0}},
+    {"2^63 - 1 + 1", LAYOUT_OUT_OF_RANGE, 12, {0x10, 1, GREATEST_BYTES, 4, 1}},
+    {"-2^63 - 1", LAYOUT_OUT_OF_RANGE, 12, {0x11, 5, LEAST_BYTES, 4, 1}},
+    {"-2^63 * -1", LAYOUT_OUT_OF_RANGE, 12, {0x12, 5, LEAST_BYTES, 8, 0xFF}},
+    {"-2^63 / -1", LAYOUT_OUT_OF_RANGE, 12, {0x13, 5, LEAST_BYTES, 8, 0xFF}},
+    {"2^63 % 0", LAYOUT_OUT_OF_RANGE, 12, {0x14, 1, LEAST_BYTES, 4, 0}},
+    {"a field + 1 / 0", LAYOUT_UNCOVERED, 9, {0x10, 9, 1, 0, 0x13, 4, 1, 4, 0}},
+    {"1 / 0 + a field", LAYOUT_ZERO_DIVISOR, 9, {0x10, 0x13, 4, 1, 4, 0, 9, 1, 0}},
+    {"(1 / 0) ** 1", LAYOUT_UNCOVERED, 8, {0x15, 0x13, 4, 1, 4, 0, 4, 1}},
+};
+
+static void check_without_value(void) {
+  /* The kinds without a value: Pow to RightShift, And, Or, Xor; then BitNot to Popcount. */
+  static const uint8_t binary[] = {0x15, 0x16, 0x17, 0x18, 0x19, 0x1A, 0x21, 0x22, 0x23};
+  struct guarded guarded;
+  for (size_t i = 0; i < sizeof without_value / sizeof *without_value; i++) {
+    const struct refused *given = &without_value[i];
+    check(ask_value(given->size, given->length, 0, &guarded) == given->number, given->what);
+    check(holds(&guarded, untouched.value), "a refused call writes nothing");
+  }
+  for (size_t i = 0; i < sizeof binary; i++) {
+    const uint8_t size[5] = {binary[i], 4, 1, 4, 1};
+    check(ask_value(size, 5, 0, &guarded) == LAYOUT_UNCOVERED, "a binary kind");
+  }
+  for (uint8_t kind = 0x24; kind <= 0x27; kind++) {
+    const uint8_t size[3] = {kind, 4, 1};
+    check(ask_value(size, 3, 0, &guarded) == LAYOUT_UNCOVERED, "a kind with one operand");
+  }
+  for (uint8_t kind = 0x09; kind <= 0x0E; kind++) {
+    const uint8_t size[9] = {kind, 1, 0, 1, 0, 1, 0, 1, 0};
+    const size_t names = kind <= 0x0C ? kind - 8u : 1;
+    check(ask_value(size, 1 + 2 * names, 0, &guarded) == LAYOUT_UNCOVERED, "a name");
+    check(holds(&guarded, untouched.value), "a refused call writes nothing");
+  }
+}
+
+/* Whether the call is refused with this number and writes nothing. */
+static void check_value_refused(const uint8_t *bundle, size_t length, size_t definition,
+                                uint8_t due, const char *what) {
+  struct guarded guarded = untouched;
+  check(layout_size_value(bundle, length, definition, &guarded.value) == due, what);
+  check(holds(&guarded, untouched.value), "a refused call writes nothing");
+}
+
+/* What is asked of a bundle before any value: that it is sound, and that the number is an array's. */
+static void check_no_array(void) {
+  static const uint8_t circle[13] = {0x60, 1, 0, 0, 0, 0, 0, 0x61, 1, 0, 0x40, 1, 0};
+  /* An array of 1 / 0 elements; one byte of it is changed at a time. */
+  static const uint8_t divided[27] = {0x60, 1, 0, 0, 0,    0, 0, 0x61, 1, 0, 0x44, 0, 0,   0,
+                                      0,    0, 0, 0, 0,    0, 0, 0x13, 4, 1, 4,    0, 0x30};
+  static uint8_t overlong[LAYOUT_BYTE_LIMIT + 1];
+  static const struct {
+    size_t at;
+    uint8_t byte;
+    uint8_t due;
+  } damaged[] = {{2, 2, LAYOUT_CROWDED}, {20, 2, LAYOUT_OFF_SCALE}, {26, 0x46, LAYOUT_STRANGER}};
+  for (size_t i = 0; i < 3; i++) {
+    uint8_t bundle[27];
+    memcpy(bundle, divided, 27);
+    bundle[damaged[i].at] = damaged[i].byte;
+    check_value_refused(bundle, 27, 0, damaged[i].due, "a damaged bundle");
+    check_value_refused(bundle, 27, 1, damaged[i].due, "before a missing number");
+  }
+  memcpy(overlong, divided, 27);
+  check_value_refused(overlong, sizeof overlong, 0, LAYOUT_OVERLONG, "overlong");
+  check_value_refused(overlong, 28, 0, LAYOUT_TRAILING, "trailing");
+  check_value_refused(NULL, 0, 0, LAYOUT_SHORT, "nothing is short");
+  check_value_refused(divided, 26, 0, LAYOUT_SHORT, "cut off is short");
+  check_value_refused(circle, 13, 0, LAYOUT_CIRCLE, "circle before no array");
+  check_value_refused(divided, 27, 0, LAYOUT_ZERO_DIVISOR, "zero divisor");
+  check_value_refused(divided, 27, 1, LAYOUT_VARYING, "no such definition");
+  check_value_refused(divided, 27, SIZE_MAX, LAYOUT_VARYING, "no such definition, the greatest");
+  check_value_refused(fixed, FIXED_LEN, 0, LAYOUT_VARYING, "a struct");
+  check_value_refused(fixed, FIXED_LEN, 1, LAYOUT_VARYING, "a TypeRef");
+  check_value_refused(fixed, FIXED_LEN, 4, LAYOUT_VARYING, "one number too many");
+}
+
+/* Puts so many Adds of 1 and 1, each inside the one before, on its left or right; their length. */
+static size_t put_adds(uint8_t *size, size_t adds, int on_the_right) {
+  size_t length = 0;
+  for (size_t i = 0; i < adds; i++) {
+    size[length++] = 0x10;
+    if (on_the_right) {
+      size[length++] = 4;
+      size[length++] = 1;
+    }
+  }
+  for (size_t i = on_the_right ? adds : 0; i <= adds; i++) {
+    size[length++] = 4;
+    size[length++] = 1;
+  }
+  return length;
+}
+
+/* A size that goes down to the deepest level that is read, and one level more. */
+static void check_deep_value(void) {
+  for (int on_the_right = 0; on_the_right < 2; on_the_right++) {
+    uint8_t size[SIZED_ROOM];
+    struct guarded guarded;
+    size_t length = put_adds(size, LAYOUT_DEPTH_LIMIT - 2, on_the_right);
+    check(ask_value(size, length, 0, &guarded) == 0, "the deepest size");
+    check(holds(&guarded, LAYOUT_DEPTH_LIMIT - 1), "its value");
+    length = put_adds(size, LAYOUT_DEPTH_LIMIT - 1, on_the_right);
+    check(ask_value(size, length, 0, &guarded) == LAYOUT_BURIED, "one level more");
+    check(holds(&guarded, untouched.value), "a refused call writes nothing");
+  }
+}
+
+/* The count of an array is the value of its size. */
+static void check_counts(void) {
+  /* An array of 4 * 3 U8, of which the operator is changed. */
+  uint8_t bundle[27] = {0x60, 1, 0, 0, 0,    0, 0, 0x61, 1, 0, 0x44, 0, 0,   0,
+                        0,    0, 0, 0, 0,    0, 0, 0x12, 4, 4, 4,    3, 0x30};
+  static const struct {
+    uint8_t kind;
+    uint8_t right;
+    uint8_t due;
+    uint64_t size;
+  } cases[] = {{0x12, 3, 0, 12}, {0x13, 3, 0, 1},   {0x11, 4, 0, 0},  {0x1E, 3, 0, 1},
+               {0x11, 5, 11, 0}, {0x13, 0, 11, 0}, {0x15, 3, 11, 0}};
+  for (size_t i = 0; i < sizeof cases / sizeof *cases; i++) {
+    struct answer answer = noise;
+    bundle[21] = cases[i].kind;
+    bundle[25] = cases[i].right;
+    check(layout_fixed_size(bundle, 27, 0, NULL, 0, &answer.size, &answer.alignment,
+                            &answer.written) == cases[i].due,
+          "a count that is worked out");
+    if (cases[i].due != 0) {
+      check(same(&answer, &noise), "a refused call writes nothing");
+    } else {
+      check(answer.size == cases[i].size && answer.alignment == 1, "its size");
+    }
+  }
+}
+
 /* The most fields that a struct can have. */
 static void check_field_limit(void) {
   static uint8_t bundle[LAYOUT_BYTE_LIMIT];
@@ -236,6 +469,9 @@ static void check_unaligned(void) {
     memcpy(bundle, fixed, FIXED_LEN);
     check(ask(bundle, 1, 3, &answer) == 0, "unaligned fixed size");
     check(answer.size == 12 && answer.written == 3 && answer.offsets[2] == 8, "its offsets");
+    struct guarded guarded = untouched;
+    check(layout_size_value(bundle, FIXED_LEN, 2, &guarded.value) == 0, "unaligned value");
+    check(holds(&guarded, 3), "its value");
   }
 }
 
@@ -289,6 +525,9 @@ static void *call_often(void *given) {
     struct answer answer;
     work->wrong += ask(fixed, 0, 5, &answer) != 0;
     work->wrong += answer.size != 12 || answer.written != 3 || answer.offsets[2] != 8;
+    struct guarded guarded = untouched;
+    work->wrong += layout_size_value(fixed, FIXED_LEN, 2, &guarded.value) != 0;
+    work->wrong += !holds(&guarded, 3);
   }
   return NULL;
 }
@@ -325,6 +564,12 @@ int main(void) {
   check_byte_order();
   check_fixed_size();
   check_fixed_size_refusals();
+  check_values(literals, sizeof literals / sizeof *literals);
+  check_values(operators, sizeof operators / sizeof *operators);
+  check_without_value();
+  check_no_array();
+  check_deep_value();
+  check_counts();
   check_field_limit();
   check_unaligned();
   check_threads();

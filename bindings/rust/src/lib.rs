@@ -63,6 +63,12 @@ mod calls {
             alignment: *mut u64,
             written: *mut usize,
         ) -> u8;
+        pub fn layout_size_value(
+            bundle: *const u8,
+            bundle_len: usize,
+            definition: usize,
+            value: *mut i64,
+        ) -> u8;
     }
 }
 
@@ -172,6 +178,15 @@ pub fn fixed_size(
         written,
     };
     outcome(number, found)
+}
+
+/// The value of the size of the definition of that number, from 0, which is an array, jagged or not.
+pub fn size_value(bundle: &[u8], definition: usize) -> Result<i64, Refusal> {
+    let mut value = 0;
+    // As in `accept`; the one number that is written is this function's own.
+    let number =
+        unsafe { calls::layout_size_value(bundle.as_ptr(), bundle.len(), definition, &mut value) };
+    outcome(number, value)
 }
 
 /// The report, in a buffer that grows as long as it is too short.

@@ -17,10 +17,13 @@ pub enum Refusal {
     Misaligned = 10,
     Varying = 11,
     Oversized = 12,
+    ZeroDivisor = 13,
+    OutOfRange = 14,
+    Uncovered = 15,
 }
 
 impl Refusal {
-    pub const ALL: [Refusal; 12] = [
+    pub const ALL: [Refusal; 15] = [
         Refusal::Overlong,
         Refusal::Short,
         Refusal::Stranger,
@@ -33,6 +36,9 @@ impl Refusal {
         Refusal::Misaligned,
         Refusal::Varying,
         Refusal::Oversized,
+        Refusal::ZeroDivisor,
+        Refusal::OutOfRange,
+        Refusal::Uncovered,
     ];
 
     /// The refusal of that number; none for 0, which is an acceptance.
@@ -59,6 +65,9 @@ impl Refusal {
             Refusal::Misaligned => "misaligned",
             Refusal::Varying => "varying",
             Refusal::Oversized => "oversized",
+            Refusal::ZeroDivisor => "zero divisor",
+            Refusal::OutOfRange => "out of range",
+            Refusal::Uncovered => "uncovered",
         }
     }
 
@@ -74,8 +83,13 @@ impl Refusal {
             Refusal::Circle => "a definition leads, by its TypeRefs, back to itself",
             Refusal::Narrow => "the output is longer than the buffer lent for it",
             Refusal::Misaligned => "an aligned that is neither 0 nor a power of two is reached",
-            Refusal::Varying => "no such definition, or a part without a fixed size is reached",
+            Refusal::Varying => {
+                "no such definition, a size that is not fixed, or the value of what is no array"
+            }
             Refusal::Oversized => "a part is reached with a size or offset over 4,294,967,295",
+            Refusal::ZeroDivisor => "a Div or Mod by 0 is met",
+            Refusal::OutOfRange => "a value below -2^63 or over 2^63 - 1 is met",
+            Refusal::Uncovered => "an expression of a kind without a value is met",
         }
     }
 }

@@ -2,7 +2,7 @@
 
 use layout::{
     accept, chain, chain_vec, fixed_size, fixed_size_vec, renumber, renumber_vec, report,
-    report_vec, FixedLayout, FixedSize, Refusal, BYTE_LIMIT, FIELD_LIMIT, STACK_BYTES,
+    report_vec, size_value, FixedLayout, FixedSize, Refusal, BYTE_LIMIT, FIELD_LIMIT, STACK_BYTES,
 };
 
 /// A jagged array of three U8 and its report.
@@ -72,6 +72,8 @@ fn each_refusal_has_its_number() {
         assert_eq!(chain(&bytes, 1, 1, &mut [0; 64]), Err(refusal));
         assert_eq!(fixed_size(&bytes, 0, &mut [0; 64]), Err(refusal));
         assert_eq!(fixed_size(&bytes, usize::MAX, &mut []), Err(refusal));
+        assert_eq!(size_value(&bytes, 0), Err(refusal));
+        assert_eq!(size_value(&bytes, usize::MAX), Err(refusal));
     }
 }
 
@@ -322,6 +324,160 @@ fn a_number_without_a_definition_varies() {
     assert_eq!(fixed_size_vec(&edges(&[]), 0), Err(Refusal::Varying));
 }
 
+const ADD: u8 = 0x10;
+const SUB: u8 = 0x11;
+const MUL: u8 = 0x12;
+const DIV: u8 = 0x13;
+const MOD: u8 = 0x14;
+const POW: u8 = 0x15;
+/// Eq, Ne, Lt, Gt, Le and Ge.
+const COMPARISONS: std::ops::RangeInclusive<u8> = 0x1B..=0x20;
+
+/// A literal I64, or the U64 of the same bits.
+fn long(kind: u8, value: i64) -> Vec<u8> {
+    [&[kind], &value.to_le_bytes()[..]].concat()
+}
+
+fn int(value: i64) -> Vec<u8> {
+    long(5, value)
+}
+
+fn binary(kind: u8, left: &[u8], right: &[u8]) -> Vec<u8> {
+    [&[kind], left, right].concat()
+}
+
+/// An array of U8 with this size.
+fn sized(jagged: u8, size: &[u8]) -> Vec<u8> {
+    attributed(0x44, 0, 0, &[&[jagged], size, U8].concat())
+}
+
+/// The value of a size in an array, which is the same in a jagged one.
+fn value(size: &[u8]) -> Result<i64, Refusal> {
+    let found = size_value(&defined(&[&sized(0, size)]), 0);
+    assert_eq!(size_value(&defined(&[&sized(1, size)]), 0), found);
+    found
+}
+
+#[test]
+fn literals_have_their_number() {
+    assert_eq!(value(&[4, 0xFF]), Ok(255));
+    assert_eq!(value(&[3, 0xFF, 0xFF]), Ok(65_535));
+    assert_eq!(value(&[2, 0xFF, 0xFF, 0xFF, 0xFF]), Ok(4_294_967_295));
+    assert_eq!(value(&[8, 0xFF]), Ok(-1));
+    assert_eq!(value(&[7, 0, 0x80]), Ok(-32_768));
+    assert_eq!(value(&[6, 0xFE, 0xFF, 0xFF, 0xFF]), Ok(-2));
+    for number in [0, 1, -1, i64::MAX, i64::MIN] {
+        assert_eq!(value(&int(number)), Ok(number));
+        let unsigned = value(&long(1, number));
+        assert_eq!(unsigned.is_ok(), number >= 0, "{number}");
+        assert_eq!(unsigned.unwrap_or(number), number);
+    }
+    assert_eq!(value(&long(1, i64::MIN)), Err(Refusal::OutOfRange));
+}
+
+/// What an operator gives for two numbers.
+fn operator(kind: u8, left: i64, right: i64) -> Option<i64> {
+    match kind {
+        ADD => left.checked_add(right),
+        SUB => left.checked_sub(right),
+        MUL => left.checked_mul(right),
+        DIV => left.checked_div(right),
+        _ => Some(left.checked_rem(right).unwrap_or(0)),
+    }
+}
+
+#[test]
+fn operators_are_exact() {
+    let root = 3_037_000_500; // Its square is just over 2^63.
+    let numbers = [0, 1, -1, 2, -2, 3, 7, -7, root, -root, i64::MAX, i64::MIN];
+    for (left, right) in numbers.iter().flat_map(|l| numbers.map(|r| (*l, r))) {
+        for kind in [ADD, SUB, MUL, DIV, MOD] {
+            let due = match (kind, right) {
+                (DIV | MOD, 0) => Err(Refusal::ZeroDivisor),
+                _ => operator(kind, left, right).ok_or(Refusal::OutOfRange),
+            };
+            let found = value(&binary(kind, &int(left), &int(right)));
+            assert_eq!(found, due, "{kind:02X} of {left} and {right}");
+        }
+        let holds = [
+            left == right,
+            left != right,
+            left < right,
+            left > right,
+            left <= right,
+            left >= right,
+        ];
+        for (kind, holds) in COMPARISONS.zip(holds) {
+            let found = value(&binary(kind, &int(left), &int(right)));
+            assert_eq!(found, Ok(i64::from(holds)), "{kind:02X}, {left}, {right}");
+        }
+    }
+}
+
+#[test]
+fn the_first_refusal_that_is_met_counts() {
+    let zero = binary(DIV, &[4, 1], &[4, 0]);
+    let over = long(1, i64::MIN);
+    let field = [9, 1, 0];
+    let (thirteen, fourteen, fifteen) = (
+        Err(Refusal::ZeroDivisor),
+        Err(Refusal::OutOfRange),
+        Err(Refusal::Uncovered),
+    );
+    for kind in (ADD..=MOD).chain(COMPARISONS) {
+        assert_eq!(value(&binary(kind, &zero, &over)), thirteen);
+        assert_eq!(value(&binary(kind, &over, &field)), fourteen);
+        assert_eq!(value(&binary(kind, &field, &zero)), fifteen);
+        assert_eq!(value(&binary(kind, &[4, 0], &field)), fifteen);
+    }
+    // A kind without a value is refused before its operands are looked at.
+    for kind in (POW..=0x1A).chain(0x21..=0x23) {
+        assert_eq!(value(&binary(kind, &zero, &over)), fifteen);
+    }
+    for kind in 0x24..=0x27 {
+        assert_eq!(value(&[&[kind], &over[..]].concat()), fifteen);
+    }
+    for name in [&[0x0D, 1, 0], &[0x0E, 1, 0], &field] {
+        assert_eq!(value(name), fifteen);
+    }
+    assert_eq!(value(&[0x0C, 1, 0, 1, 0, 1, 0, 1, 0]), fifteen);
+    // A divisor of 0 is found before the range.
+    assert_eq!(value(&binary(MOD, &int(i64::MIN), &[4, 0])), thirteen);
+}
+
+#[test]
+fn only_arrays_have_a_value() {
+    let sum = binary(MUL, &[4, 4], &[4, 3]);
+    let array = sized(0, &sum);
+    let bytes = defined(&[
+        &array,
+        &[0x40, 1, 0],
+        U8,
+        &group(0x41, 0, 3, &[&array]),
+        &sized(1, &sum),
+    ]);
+    let found: Vec<_> = (0..6).map(|place| size_value(&bytes, place)).collect();
+    let none = Err(Refusal::Varying);
+    assert_eq!(found, [Ok(12), none, none, none, Ok(12), none]);
+    for definition in [1 << 16, 1 << 32, usize::MAX] {
+        assert_eq!(size_value(&bytes, definition), none);
+    }
+    assert_eq!(size_value(&edges(&[]), 0), none);
+}
+
+#[test]
+fn fixed_sizes_take_values_that_are_not_negative() {
+    let size = |size: &[u8]| fixed_size_vec(&defined(&[&sized(0, size)]), 0);
+    assert_eq!(size(&binary(MUL, &[4, 4], &[4, 3])), found(12, 1, &[]));
+    assert_eq!(size(&binary(SUB, &[4, 3], &[4, 3])), found(0, 1, &[]));
+    let varying = Err(Refusal::Varying);
+    assert_eq!(size(&binary(SUB, &[4, 3], &[4, 4])), varying);
+    assert_eq!(size(&binary(DIV, &[4, 3], &[4, 0])), varying);
+    assert_eq!(size(&binary(POW, &[4, 3], &[4, 0])), varying);
+    assert_eq!(size(&long(1, i64::MIN)), varying);
+    assert_eq!(size(&long(1, i64::MAX)), Err(Refusal::Oversized));
+}
+
 #[test]
 fn refusals_have_numbers_words_and_meanings() {
     for (place, refusal) in Refusal::ALL.into_iter().enumerate() {
@@ -330,8 +486,17 @@ fn refusals_have_numbers_words_and_meanings() {
         assert!(!refusal.meaning().is_empty());
     }
     assert_eq!(Refusal::from_number(0), None);
-    assert_eq!(Refusal::from_number(13), None);
+    assert_eq!(Refusal::from_number(16), None);
     assert_eq!(Refusal::OffScale.word(), "off scale");
+    assert_eq!(Refusal::ZeroDivisor.number(), 13);
+    assert_eq!(
+        Refusal::OutOfRange.to_string(),
+        "out of range (14): a value below -2^63 or over 2^63 - 1 is met"
+    );
+    assert_eq!(
+        Refusal::Uncovered.to_string(),
+        "uncovered (15): an expression of a kind without a value is met"
+    );
     assert_eq!(
         Refusal::Circle.to_string(),
         "circle (8): a definition leads, by its TypeRefs, back to itself"
@@ -368,6 +533,7 @@ fn a_thread_with_the_stated_stack_is_enough() {
         );
         assert_eq!(chain_vec(&bundle, 1, 2), Ok(vec![]));
         assert_eq!(fixed_size_vec(&bundle, 0), found(1, 1, &[0]));
+        assert_eq!(size_value(&bundle, 0), Err(Refusal::Varying));
     };
     thread.spawn(calls).unwrap().join().unwrap();
 }
