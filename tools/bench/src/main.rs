@@ -8,6 +8,7 @@ mod fixed_rows;
 mod inputs;
 mod measure;
 mod shapes;
+mod value;
 
 use inputs::Worst;
 use layout_oracle::bundle::{encode, Bundle, BYTE_LIMIT};

@@ -389,7 +389,8 @@ impl Maker<'_> {
     }
 }
 
-fn depth(node: &Expr) -> usize {
+/// The levels of an expression; a literal has one.
+pub fn depth(node: &Expr) -> usize {
     match node {
         Expr::Binary(_, left, right) => 1 + depth(left).max(depth(right)),
         Expr::Unary(_, operand) => 1 + depth(operand),
