@@ -5,12 +5,12 @@ use layout::Refusal;
 use layout_oracle::bundle::{encode, Bundle, Expr, Type, DEPTH_LIMIT, WORDS};
 use layout_oracle::compare::hex;
 use layout_oracle::fixed_cases::some_definition;
+use layout_oracle::generate::expr_depth;
 use layout_oracle::random::Random;
 use layout_oracle::reader;
 use layout_oracle::value::size_value;
 use layout_oracle::value_cases::value_bytes;
 use layout_oracle::value_examples::examples;
-use layout_oracle::value_generate::depth;
 
 type Answer = Result<i64, u8>;
 
@@ -128,7 +128,7 @@ impl Tally {
         if let Some(Type::Array(_, _, size, _)) = found.map(|found| &found.body) {
             self.expressions += 1;
             self.sums += usize::from(matches!(size, Expr::Binary(..)));
-            self.deepest += usize::from(1 + depth(size) == DEPTH_LIMIT);
+            self.deepest += usize::from(1 + expr_depth(size) == DEPTH_LIMIT);
         }
         match due {
             Err(number) => self.refusals[*number as usize] += 1,

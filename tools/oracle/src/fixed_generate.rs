@@ -10,7 +10,7 @@ use crate::random::Random;
 use crate::reader;
 use crate::value_generate::{any_size, with_value, without_value};
 
-/// Counts stand at most this deep in the bundles that are made level by level.
+/// The most levels of a sum.
 const SUM_LEVELS: usize = 5;
 
 /// A bundle that the reader accepts.

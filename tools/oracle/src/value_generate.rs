@@ -4,7 +4,7 @@
 //! a value stand anywhere in some of them.
 
 use crate::bundle::*;
-use crate::generate::permute_names;
+use crate::generate::{expr_depth, permute_names};
 use crate::random::Random;
 use crate::reader;
 
@@ -371,7 +371,7 @@ impl Maker<'_> {
         let value = self.some_value();
         let mut found = self.goal(value, target.min(3));
         let way = self.random.pick(&[0, 50, 100]);
-        while depth(&found) < target {
+        while expr_depth(&found) < target {
             let kind = match self.random.chance(self.faults / 10) {
                 true => self.random.pick(&NO_VALUE),
                 false => self
@@ -386,15 +386,6 @@ impl Maker<'_> {
             };
         }
         found
-    }
-}
-
-/// The levels of an expression; a literal has one.
-pub fn depth(node: &Expr) -> usize {
-    match node {
-        Expr::Binary(_, left, right) => 1 + depth(left).max(depth(right)),
-        Expr::Unary(_, operand) => 1 + depth(operand),
-        _ => 1,
     }
 }
 
