@@ -2,7 +2,7 @@
 """Makes the cases of crates/replay from the oracle's lines.
 
   tools/oracle/target/oracle cases 5 400 > A; tools/oracle/target/oracle edgecases > B
-  tools/oracle/target/oracle fixedcases 7 600 > C; tools/oracle/target/oracle valuecases 9 1200 > D
+  tools/oracle/target/oracle fixedcases 7 600 > C; tools/oracle/target/oracle valuecases 9 800 > D
   tools/replay_cases.py A B --fixed C --values D
 
 Each line has a bundle and the report due, in hexadecimal, '-' for no bytes. Bundles over 600 bytes are left out but for the first

@@ -30,13 +30,14 @@ struct Tally {
 
 /// Prints what was met, or the first bundle with another answer.
 pub fn compare(seed: u64, count: usize) -> bool {
-    let mut random = Random::new(seed);
+    let mut noise = Random::new(seed);
     for example in examples() {
         let bytes = encode(&example.bundle);
-        if !one_number(&bytes, example.definition, &example.answer, &mut random) {
+        if !one_number(&bytes, example.definition, &example.answer, &mut noise) {
             return false;
         }
     }
+    let mut random = Random::new(seed);
     let mut tally = Tally::default();
     for _ in 0..count {
         let bytes = value_bytes(&mut random);
