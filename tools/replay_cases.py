@@ -2,7 +2,8 @@
 """Makes the cases of crates/replay from the oracle's lines.
 
   tools/oracle/target/oracle cases 5 400 > A; tools/oracle/target/oracle edgecases > B
-  tools/oracle/target/oracle fixedcases 7 600 > C; tools/replay_cases.py A B --fixed C
+  tools/oracle/target/oracle fixedcases 7 600 > C; tools/oracle/target/oracle valuecases 9 800 > D
+  tools/replay_cases.py A B --fixed C --values D
 
 Each line has a bundle and the report due, in hexadecimal, '-' for no bytes. Bundles over 600 bytes are left out but for the first
 two of each file, and so are reports over 60,000 bytes. For each bundle the renumbered bundle due is asked of `oracle renumber`
@@ -10,10 +11,12 @@ too. Two cases are made here: 256 definitions in which each refers twice to the 
 an array of the first; and the same with the names shifted.
 
 Each line of C has the number of a definition, a bundle, and size (8 bytes, low byte first), alignment (8 bytes) and offsets (4 bytes
-each), or 7E and the refusal. The number goes in front of the bundle, in two bytes; one that has no room there is left out.
+each), or 7E and the refusal. Each line of D has the number of a definition, a bundle, and the value of its size (8 bytes, two's
+complement, low byte first), or 7E and the refusal. The number goes in front of the bundle, in two bytes; one that has no room there
+is left out.
 
-crates/replay/stdin has for each case 0 for a report, 1 for a renumbering or 2 for a fixed size, the lengths of bundle and answer
-(2 bytes each, low byte first) and both; crates/replay/stdout says that all are answered the same.
+crates/replay/stdin has for each case 0 for a report, 1 for a renumbering, 2 for a fixed size or 3 for a value, the lengths of bundle and
+answer (2 bytes each, low byte first) and both; crates/replay/stdout says that all are answered the same.
 """
 import os
 import subprocess
@@ -56,7 +59,8 @@ def renumbered(bundle):
     return subprocess.run([oracle, 'renumber'], input=bundle, capture_output=True, check=True).stdout
 
 
-def fixed(path):
+def numbered(path):
+    """Cases of one definition, its number in front of the bundle."""
     for line in open(path):
         definition, bundle, answer = line.split()
         bundle = b'' if bundle == '-' else bytes.fromhex(bundle)
@@ -64,13 +68,25 @@ def fixed(path):
             yield number(int(definition)) + bundle, bytes.fromhex(answer)
 
 
+def files(words):
+    """The files of reports, of fixed sizes and of values."""
+    lists = {'': [], '--fixed': [], '--values': []}
+    current = ''
+    for word in words:
+        if word in lists:
+            current = word
+        else:
+            lists[current].append(word)
+    return lists.values()
+
+
 def main():
-    paths = sys.argv[1:]
-    at = paths.index('--fixed') if '--fixed' in paths else len(paths)
-    reports = [case for path in paths[:at] for case in load(path)] + [shared(0), shared(300)]
+    plain, fixed, values = files(sys.argv[1:])
+    reports = [case for path in plain for case in load(path)] + [shared(0), shared(300)]
     cases = [(0, bundle, answer) for bundle, answer in reports]
     cases += [(1, bundle, renumbered(bundle)) for bundle, _ in reports]
-    cases += [(2, bundle, answer) for path in paths[at + 1:] for bundle, answer in fixed(path)]
+    cases += [(2, bundle, answer) for path in fixed for bundle, answer in numbered(path)]
+    cases += [(3, bundle, answer) for path in values for bundle, answer in numbered(path)]
     folder = os.path.join(TOP, 'crates', 'replay')
     with open(os.path.join(folder, 'stdin'), 'wb') as out:
         for call, bundle, answer in cases:

@@ -26,7 +26,7 @@ counted() { # PATTERN
 printf '%-46s%8s  %-11s%14s%10s%12s\n' case bytes call instructions 'a byte' cleared
 for file in "$@"; do
   bytes=$(wc -c < "$file")
-  for call in report accept renumber chain fixed_size; do
+  for call in report accept renumber chain fixed_size size_value; do
     valgrind --tool=callgrind --callgrind-out-file="$target/counts" --toggle-collect="layout_$call" \
       "$target/one_call" "$file" "$call" > "$target/said" 2>&1 || true
     all=$(sed -n 's/.*Collected : *//p' "$target/said")

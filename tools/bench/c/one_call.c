@@ -1,6 +1,6 @@
 /* Makes one call of the library on a bundle in a file, so that its instructions can be counted.
- * Usage: one_call FILE accept|report|renumber|chain|fixed_size
- * The chain goes from the first edge's start to the last edge's end; the fixed size is that of the first definition. */
+ * Usage: one_call FILE accept|report|renumber|chain|fixed_size|size_value
+ * The chain goes from the first edge's start to the last edge's end; fixed size and value are those of the first definition. */
 #include "bundle_file.h"
 
 static int call_of(const char *word) {
@@ -18,6 +18,11 @@ static int fixed_size(struct bundle *bundle) {
                            &bundle->written);
 }
 
+static int size_value(const struct bundle *bundle) {
+  int64_t value;
+  return layout_size_value(bundle->bytes, bundle->length, 0, &value);
+}
+
 int main(int count, char **words) {
   struct bundle bundle;
   int call;
@@ -25,8 +30,12 @@ int main(int count, char **words) {
     bundle = bundle_of_file(words[1]);
     return fixed_size(&bundle);
   }
+  if (count == 3 && strcmp(words[2], "size_value") == 0) {
+    bundle = bundle_of_file(words[1]);
+    return size_value(&bundle);
+  }
   if (count != 3 || (call = call_of(words[2])) == NO_CALL) {
-    fprintf(stderr, "usage: one_call FILE accept|report|renumber|chain|fixed_size\n");
+    fprintf(stderr, "usage: one_call FILE accept|report|renumber|chain|fixed_size|size_value\n");
     return 2;
   }
   bundle = bundle_of_file(words[1]);

@@ -1,7 +1,7 @@
 //! The library's answers against the oracle's, on limit cases and random bundles.
 
 use crate::exchange::exchanged;
-use crate::fixed;
+use crate::{fixed, value};
 use layout::Refusal;
 use layout_oracle::bundle::{encode, Name};
 use layout_oracle::compare::{compare_answers, hex};
@@ -41,11 +41,11 @@ pub fn compare(seed: u64, count: usize) -> bool {
             return false;
         }
     }
-    if !fixed::compare(seed, count) {
+    if !fixed::compare(seed, count) || !value::compare(seed, count) {
         return false;
     }
-    println!("no difference in report, accept, renumber, chain and fixed_size, with exchanged");
-    println!("names too");
+    println!("no difference in report, accept, renumber, chain, fixed_size and size_value, with");
+    println!("exchanged names too");
     true
 }
 

@@ -27,9 +27,14 @@ pub fn exchanged(bytes: &[u8], random: &mut Random) -> Result<(), &'static str> 
     renumbered_report(bytes, &plain, &numbering(&names))
 }
 
-/// Whether fixed sizes stay the same under exchanges of names, of which one sends 0 to
-/// another name, and in the renumbered bundle.
-pub fn exchanged_sizes(bytes: &[u8], numbers: &[usize], random: &mut Random) -> bool {
+/// Whether a call's answers for definitions stay the same under exchanges of names, of
+/// which one sends 0 to another name, and in the renumbered bundle.
+pub fn same_by_any_names<T: PartialEq>(
+    bytes: &[u8],
+    numbers: &[usize],
+    random: &mut Random,
+    call: impl Fn(&[u8], usize) -> T,
+) -> bool {
     let (Ok(found), Ok(plain)) = (scan(bytes), layout::renumber_vec(bytes)) else {
         return true;
     };
@@ -42,10 +47,8 @@ pub fn exchanged_sizes(bytes: &[u8], numbers: &[usize], random: &mut Random) -> 
     let mut others = vec![plain];
     others.extend(maps.iter().map(|map| put_through(bytes, &found.names, map)));
     numbers.iter().all(|number| {
-        let before = layout::fixed_size_vec(bytes, *number);
-        others
-            .iter()
-            .all(|other| layout::fixed_size_vec(other, *number) == before)
+        let before = call(bytes, *number);
+        others.iter().all(|other| call(other, *number) == before)
     })
 }
 

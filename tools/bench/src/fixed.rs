@@ -1,8 +1,8 @@
 //! The library's fixed sizes against the oracle's, on examples and random bundles.
 
-use crate::exchange::exchanged_sizes;
+use crate::exchange::same_by_any_names;
 use layout::Refusal;
-use layout_oracle::bundle::{encode, Bundle, WORDS};
+use layout_oracle::bundle::{encode, Bundle, Expr, Type, WORDS};
 use layout_oracle::compare::hex;
 use layout_oracle::fixed::{fixed_size, Fixed};
 use layout_oracle::fixed_cases::{fixed_bytes, some_definition};
@@ -16,6 +16,7 @@ type Answer = Result<Fixed, u8>;
 #[derive(Default)]
 struct Tally {
     bundles: usize,
+    with_sums: usize,
     calls: usize,
     accepted: usize,
     with_offsets: usize,
@@ -52,6 +53,8 @@ pub fn compare(seed: u64, count: usize) -> bool {
 fn one_bundle(bytes: &[u8], random: &mut Random, tally: &mut Tally) -> bool {
     let sound = reader::read(bytes);
     tally.bundles += 1;
+    let sums = sound.as_ref().is_ok_and(has_sum);
+    tally.with_sums += usize::from(sums);
     let numbers = asked(random, bytes, sound.as_ref().ok());
     for definition in &numbers {
         let due = sound.as_ref().map_err(|number| *number);
@@ -60,7 +63,7 @@ fn one_bundle(bytes: &[u8], random: &mut Random, tally: &mut Tally) -> bool {
             return false;
         }
     }
-    let same = exchanged_sizes(bytes, &numbers, random);
+    let same = same_by_any_names(bytes, &numbers, random, layout::fixed_size_vec);
     if !same {
         println!(
             "fixed sizes {numbers:?} with exchanged names differ on {}",
@@ -68,6 +71,25 @@ fn one_bundle(bytes: &[u8], random: &mut Random, tally: &mut Tally) -> bool {
         );
     }
     same
+}
+
+/// Whether the size of an array somewhere in the bundle is an operation.
+fn has_sum(bundle: &Bundle) -> bool {
+    let mut bodies = bundle.definitions.iter().map(|found| &found.body);
+    bodies.any(has_sum_inside)
+}
+
+fn has_sum_inside(part: &Type) -> bool {
+    match part {
+        Type::Primitive(_) | Type::TypeRef(_) => false,
+        Type::Array(_, _, size, element) => {
+            matches!(size, Expr::Binary(..)) || has_sum_inside(element)
+        }
+        Type::Struct(_, list)
+        | Type::Union(_, list)
+        | Type::Enum(_, _, list)
+        | Type::SizeUnion(_, list) => list.iter().any(|m| has_sum_inside(&m.member_type)),
+    }
 }
 
 /// Numbers of definitions to ask for: some that there are, and some that there are not.
@@ -222,6 +244,7 @@ impl Tally {
 
     fn print(&self) {
         println!("fixed sizes: random bundles {}", self.bundles);
+        println!("accepted, with sums      {}", self.with_sums);
         println!("calls                    {}", self.calls);
         println!("accepted                 {}", self.accepted);
         println!("with offsets             {}", self.with_offsets);

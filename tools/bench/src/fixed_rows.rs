@@ -3,7 +3,7 @@
 use crate::inputs::{self, array, literal, structure, Worst, U16, U64, U8};
 use crate::measure::{seconds, shown};
 use crate::shapes::{bundle, define, fields, largest};
-use crate::{ratio, row, NAME_WIDTH};
+use crate::{ratio, row, value_rows, NAME_WIDTH};
 use layout_oracle::bundle::*;
 use layout_oracle::fixed::fixed_size;
 use layout_oracle::generate::pad;
@@ -16,13 +16,14 @@ const MANY: Name = 254;
 /// A name that no definition has, equal modulo 256 to those that `alike` gives.
 const NOBODY: Name = 256 * MANY + 7;
 
-const PLAUSIBLE: [(&str, Worst); 3] = [
+const PLAUSIBLE: [(&str, Worst); 4] = [
     ("a head of the 140 definitions", realistic_head),
     ("a frame of the 140 definitions", realistic_frame),
     ("a record of twenty fixed frames", inputs::fixed_frames),
+    ("the same with sums", value_rows::frames_with_sums),
 ];
 
-const WORST: [(&str, Worst); 18] = [
+const WORST: [(&str, Worst); 23] = [
     ("a small struct in a large bundle", small_one),
     ("a struct of U8 fields", many_bytes),
     ("a struct of U8 and U64 in turn", many_gaps),
@@ -41,6 +42,23 @@ const WORST: [(&str, Worst); 18] = [
     ("a line of 254 TypeRefs", line),
     ("a line of 254 TypeRefs, turned", line_turned),
     ("arrays in arrays down to depth 24", deep),
+    ("a struct of arrays with sums", value_rows::fields_with_sums),
+    (
+        "the same with sums down to depth 24",
+        value_rows::fields_with_deep_sums,
+    ),
+    (
+        "a struct of one array, the widest sum",
+        value_rows::field_with_wide_sum,
+    ),
+    (
+        "twelve arrays in arrays, wide products",
+        value_rows::wide_products_in_arrays,
+    ),
+    (
+        "254 levels, each twice in arrays by sums",
+        value_rows::levels_by_sums,
+    ),
 ];
 
 pub fn cases() -> Vec<(&'static str, Bundle)> {

@@ -8,6 +8,8 @@ mod fixed_rows;
 mod inputs;
 mod measure;
 mod shapes;
+mod value;
+mod value_rows;
 
 use inputs::Worst;
 use layout_oracle::bundle::{encode, Bundle, BYTE_LIMIT};
@@ -113,6 +115,7 @@ const NAME_WIDTH: usize = 44;
 const USAGE: &str = "usage:
   bench [--quick]            times of the library and the original
   bench fixed                the times of fixed sizes alone
+  bench values               the times of values of sizes alone
   bench compare SEED COUNT   the library's answers against the oracle's
   bench reprc SEED COUNT     the library's fixed sizes against those of rustc, which
                              tools/oracle/repr-c.sh gives on standard input
@@ -126,6 +129,7 @@ fn main() -> ExitCode {
         [] => Some(times(false)),
         ["--quick"] => Some(times(true)),
         ["fixed"] => Some(fixed_rows::print()),
+        ["values"] => Some(value_rows::print()),
         ["compare", seed, count] => {
             let numbers = seed.parse().ok().zip(count.parse().ok());
             numbers.map(|(seed, count)| compare::compare(seed, count))
@@ -155,7 +159,8 @@ fn times(quick: bool) -> bool {
     print_growth();
     print_other_calls();
     println!();
-    fixed_rows::print() && same
+    let fixed = fixed_rows::print();
+    value_rows::print() && fixed && same
 }
 
 fn cases() -> Vec<(&'static str, Bundle)> {
@@ -187,6 +192,7 @@ fn write_rows(folder: &str) -> bool {
     cases()
         .into_iter()
         .chain(fixed_rows::cases())
+        .chain(value_rows::cases())
         .enumerate()
         .map(write)
         .all(|written| written.is_ok())

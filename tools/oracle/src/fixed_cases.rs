@@ -5,6 +5,7 @@ use crate::fixed::{answer_bytes, fixed_answer};
 use crate::fixed_examples::examples;
 use crate::fixed_generate::{fixed, small_fixed};
 use crate::random::Random;
+use crate::value_generate::values;
 use crate::{damage, generate};
 use std::collections::HashSet;
 
@@ -74,10 +75,11 @@ fn candidate(random: &mut Random) -> FixedCase {
 }
 
 /// Bytes for a comparison: mostly a bundle made for fixed sizes, now and then one
-/// made for the checks, and damaged ones.
+/// made for values or for the checks, and damaged ones.
 pub fn fixed_bytes(random: &mut Random) -> Vec<u8> {
     match random.below(20) {
-        0..=14 => encode(&fixed(random)),
+        0..=13 => encode(&fixed(random)),
+        14 => encode(&values(random)),
         15 => encode(&generate::any(random)),
         16 => damage::damaged(random),
         _ => {

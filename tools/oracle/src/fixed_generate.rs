@@ -1,12 +1,17 @@
 //! Random bundles for fixed sizes: most of their definitions never vary. In some
-//! there are large counts, an `aligned` that is no power of two, or a part that
-//! varies, so that each refusal of the call comes up, also beside another.
+//! there are counts written as sums, large counts, an `aligned` that is no power of
+//! two, or a part that varies, so that each refusal of the call comes up, also beside
+//! another.
 
 use crate::bundle::*;
 use crate::fixed::SIZE_LIMIT;
 use crate::generate::{pad, permute_names, type_depth};
 use crate::random::Random;
 use crate::reader;
+use crate::value_generate::{any_size, with_value, without_value};
+
+/// The most levels of a sum.
+const SUM_LEVELS: usize = 5;
 
 /// A bundle that the reader accepts.
 pub fn fixed(random: &mut Random) -> Bundle {
@@ -58,6 +63,8 @@ struct Maker<'a> {
     varying: usize,
     /// Percent of the counts and `aligned` values that are large.
     large: usize,
+    /// Percent of the counts that are sums.
+    sums: usize,
     /// Definitions have the names under this one.
     pool: Name,
 }
@@ -69,6 +76,7 @@ impl Maker<'_> {
             misaligned: random.pick(&[0, 0, 0, 0, 0, 0, 4, 12]),
             varying: random.pick(&[0, 0, 0, 0, 0, 0, 3, 8]),
             large: random.pick(&[0, 0, 0, 0, 5, 20, 40]),
+            sums: random.pick(&[0, 0, 20, 20, 80]),
             pool: 0,
             random,
         }
@@ -215,15 +223,24 @@ impl Maker<'_> {
             let few = self
                 .random
                 .pick(&[127, 128, 255, 256, 32_768, 65_535, 65_536]);
-            let most = self
-                .random
-                .pick(&[1 << 62, 1 << 63, (1 << 63) - 1, u64::MAX]);
+            let most = self.random.pick(&[1 << 62, (1 << 63) - 1, 1 << 63]);
             let half = self.random.pick(&halves);
             self.random.pick(&[wide, half, few, few, most])
         } else {
             self.random.pick(&[0, 1, 1, 2, 2, 3, 3, 4, 5, 7, 8, 16])
         };
-        self.literal(value)
+        self.size(value)
+    }
+
+    /// The value as a literal or as a sum.
+    fn size(&mut self, value: u64) -> Expr {
+        match i64::try_from(value) {
+            Ok(value) if self.random.chance(self.sums) => {
+                let levels = self.random.between(2, SUM_LEVELS);
+                with_value(self.random, value, levels)
+            }
+            _ => self.literal(value),
+        }
     }
 
     /// The value as a literal of a kind that can hold it.
@@ -261,19 +278,13 @@ impl Maker<'_> {
         }
     }
 
-    /// A size that is no literal, however plain it looks.
+    /// A size that mostly has no value or a negative one.
     fn no_count(&mut self) -> Expr {
-        let name = self.random.below(8) as Name;
-        let left = Box::new(self.count());
-        match self.random.below(5) {
-            0 => Expr::FieldRef(vec![name]),
-            1 => Expr::Sizeof(name),
-            2 => Expr::Alignof(name),
-            3 => Expr::Unary(self.random.between(0x24, 0x27) as u8, left),
-            _ => {
-                let kind = self.random.between(0x10, 0x23) as u8;
-                Expr::Binary(kind, left, Box::new(self.count()))
-            }
+        let negative = -(self.random.between(1, 300) as i64);
+        match self.random.below(6) {
+            0 => with_value(self.random, negative, SUM_LEVELS),
+            1 => any_size(self.random, 6, SUM_LEVELS),
+            _ => without_value(self.random, SUM_LEVELS),
         }
     }
 
@@ -304,7 +315,7 @@ impl Maker<'_> {
 
     fn bytes(&mut self, count: u64) -> Type {
         let element = Type::Primitive(self.random.pick(&[0x30, 0x34, 0x38]));
-        let size = self.literal(count);
+        let size = self.size(count);
         Type::Array(self.ignored_attributes(), false, size, Box::new(element))
     }
 
@@ -352,7 +363,7 @@ impl Maker<'_> {
             1
         };
         let element = Box::new(self.bytes(total / factor));
-        let size = self.literal(factor);
+        let size = self.size(factor);
         Type::Array(self.ignored_attributes(), false, size, element)
     }
 
@@ -367,7 +378,7 @@ impl Maker<'_> {
             4 => Type::Union(own, vec![self.member(other), self.member(inner)]),
             _ => {
                 let value = self.random.pick(&[0, 1, 1, 2]);
-                let size = self.literal(value);
+                let size = self.size(value);
                 Type::Array(self.ignored_attributes(), false, size, Box::new(inner))
             }
         }

@@ -587,7 +587,8 @@ pub fn type_depth(node: &Type) -> usize {
     inside + 1
 }
 
-fn expr_depth(node: &Expr) -> usize {
+/// The levels of an expression; a literal has one.
+pub fn expr_depth(node: &Expr) -> usize {
     match node {
         Expr::Binary(_, left, right) => 1 + expr_depth(left).max(expr_depth(right)),
         Expr::Unary(_, operand) => 1 + expr_depth(operand),

@@ -38,5 +38,7 @@ pub mod report;
 pub mod repr_c;
 pub mod scan;
 pub mod value;
+pub mod value_cases;
 pub mod value_examples;
+pub mod value_generate;
 pub mod work;

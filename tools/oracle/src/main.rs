@@ -8,6 +8,7 @@ use layout_oracle::limits::edge_cases;
 use layout_oracle::reader;
 use layout_oracle::report::{program_bytes, report_bytes};
 use layout_oracle::value::value_answer;
+use layout_oracle::value_cases::{value_cases, ValueCase};
 use layout_oracle::{bundle, fixed_examples, original, reference, repr_c, value_examples, work};
 use std::io::{self, Read, Write};
 use std::process::{Command, ExitCode, Stdio};
@@ -24,6 +25,7 @@ const USAGE: &str = "usage:
   oracle cases SEED COUNT
   oracle edgecases
   oracle fixedcases SEED COUNT
+  oracle valuecases SEED COUNT
   oracle reprc-source SEED COUNT > program.rs
   oracle reprc SEED COUNT < output of the program";
 
@@ -48,6 +50,9 @@ fn main() -> ExitCode {
         ["fixedcases", seed, count] => number(seed)
             .zip(number(count))
             .map(|(seed, count)| print_fixed_cases(&fixed_cases(seed, count as usize))),
+        ["valuecases", seed, count] => number(seed)
+            .zip(number(count))
+            .map(|(seed, count)| print_value_cases(&value_cases(seed, count as usize))),
         ["reprc-source", seed, count] => number(seed)
             .zip(number(count))
             .and_then(|(seed, count)| output(repr_c::source(seed, count as usize).as_bytes())),
@@ -217,11 +222,22 @@ fn print_cases(list: &[Case]) -> ExitCode {
 }
 
 fn print_fixed_cases(list: &[FixedCase]) -> ExitCode {
+    let numbered = list.iter().map(|c| (c.definition, &c.bundle, &c.answer));
+    print_numbered(numbered)
+}
+
+fn print_value_cases(list: &[ValueCase]) -> ExitCode {
+    let numbered = list.iter().map(|c| (c.definition, &c.bundle, &c.answer));
+    print_numbered(numbered)
+}
+
+/// One case a line, with the number of the definition first.
+fn print_numbered<'a>(list: impl Iterator<Item = (usize, &'a Vec<u8>, &'a Vec<u8>)>) -> ExitCode {
     let mut out = io::BufWriter::new(io::stdout().lock());
-    for case in list {
-        let bundle = bundle_text(&case.bundle);
-        let answer = hex(&case.answer);
-        writeln!(out, "{} {bundle} {answer}", case.definition).expect("standard output");
+    for (definition, bundle, answer) in list {
+        let bundle = bundle_text(bundle);
+        let answer = hex(answer);
+        writeln!(out, "{definition} {bundle} {answer}").expect("standard output");
     }
     ExitCode::SUCCESS
 }

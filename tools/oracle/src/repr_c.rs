@@ -6,6 +6,7 @@ use crate::compare::hex;
 use crate::fixed::{Fixed, SIZE_LIMIT};
 use crate::random::Random;
 use crate::reader;
+use crate::value_generate::with_value;
 use std::fmt::{self, Write};
 
 /// Types of one bundle, of which each holds only those before it.
@@ -207,8 +208,16 @@ fn type_of(random: &mut Random, items: &[Item], part: &Part, inline: usize) -> T
                 packed: random.chance(50),
                 aligned: random.pick(&[0, 3, 64]),
             };
-            Type::Array(ignored, false, Expr::Literal(1, *count), element)
+            Type::Array(ignored, false, size_of(random, *count), element)
         }
+    }
+}
+
+/// The count as a literal or as a sum.
+fn size_of(random: &mut Random, count: u64) -> Expr {
+    match i64::try_from(count) {
+        Ok(count) if random.chance(40) => with_value(random, count, 4),
+        _ => Expr::Literal(1, count),
     }
 }
 

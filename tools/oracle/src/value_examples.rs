@@ -380,8 +380,9 @@ fn left_first(list: &mut List) {
     ];
     for kind in (ADD..=MOD).chain(COMPARISONS) {
         for (fault, number) in &faults {
-            for (right, _) in &faults {
-                let both = binary(kind, fault.clone(), right.clone());
+            let others = faults.iter().filter(|(_, other)| other != number);
+            for (other, _) in others {
+                let both = binary(kind, fault.clone(), other.clone());
                 alone(list, both, Err(*number));
             }
             alone(list, binary(kind, signed(1), fault.clone()), Err(*number));
