@@ -1,149 +1,16 @@
-// Replays stored cases: runs the report, the renumbering or the fixed size on each bundle and compares with the stored answer.
-use bundle::Answer;
+// Replays stored cases: runs the report, the renumbering, the fixed size or the value on each bundle and compares with the stored answer.
 use libc::STDIN_FILENO;
 use libc::STDOUT_FILENO;
 use offsets::Fixed;
+use values::Valued;
 ghost use Prim.Native.Nat.{_<_};
 
-// Reads n bytes into the first places.
-fn read_first(space: &mut [u8], n: usize) {
-    if n <= space.len() {
-        io::read_full(STDIN_FILENO, &mut space[..n]);
-    }
-}
-
-// Whether the first n bytes of both are the same.
-fn same_first(a: &[u8], b: &[u8], n: usize) -> bool {
-    if a.len() < n {
-        return false;
-    }
-    if b.len() < n {
-        return false;
-    }
-    let mut i = 0;
-    while i < n {
-        if a[i] != b[i] {
-            return false;
-        }
-        i += 1;
-    }
-    true
-}
-
-// Whether the first m bytes are 7E and this refusal.
-fn is_refusal(number: u8, due: &[u8], m: usize) -> bool {
-    let refusal = [0x7Eu8, number];
-    if m != 2 {
-        return false;
-    }
-    same_first(&refusal, due, m)
-}
-
-// Whether the answer is the one in the first m bytes: the result in the first places of `out`, or 7E and the refusal.
-fn is_due(answer: Answer, out: &[u8], due: &[u8], m: usize) -> bool {
-    match answer {
-        Answer::Accepted(size) => {
-            if size != m {
-                return false;
-            }
-            same_first(out, due, m)
-        }
-        Answer::Refused(number) => is_refusal(number, due, m),
-    }
-}
-
-// Whether the report of the bundle in the first n bytes is the answer in the first m of `due`.
-fn reported(space: &[u8], n: usize, due: &[u8], m: usize, out: &mut [u8]) -> bool {
+// Reads n bytes into the first places; whether all were there.
+fn read_first(space: &mut [u8], n: usize) -> bool {
     if space.len() < n {
         return false;
     }
-    let answer = report::report(&space[..n], out);
-    is_due(answer, out, due, m)
-}
-
-// The same for the renumbered bundle.
-fn renumbered(space: &[u8], n: usize, due: &[u8], m: usize, out: &mut [u8]) -> bool {
-    if space.len() < n {
-        return false;
-    }
-    let answer = renumber::renumber(&space[..n], out);
-    is_due(answer, out, due, m)
-}
-
-// Whether the number is that of the `w` bytes at `at`, low byte first.
-fn number_is(due: &[u8], at: usize, w: usize, number: u64) -> bool {
-    let mut rest = number;
-    let mut i = 0;
-    while i < w {
-        if due.len() <= i {
-            return false;
-        }
-        if due.len() - i <= at {
-            return false;
-        }
-        if due[at + i] != (rest % 256) as u8 {
-            return false;
-        }
-        rest = rest / 256;
-        i += 1;
-    }
-    true
-}
-
-fn long(number: u32) -> u64 {
-    number as u64
-}
-
-// Whether the first `count` offsets are those behind the first 16 bytes.
-fn offsets_are(list: &[u32], count: usize, due: &[u8]) -> bool {
-    if list.len() < count {
-        return false;
-    }
-    if 8192 < count {
-        return false;
-    }
-    let mut i = 0;
-    while i < count {
-        if !number_is(due, 16 + 4 * i, 4, long(list[i])) {
-            return false;
-        }
-        i += 1;
-    }
-    true
-}
-
-// Whether size, alignment and offsets are those in the first m bytes.
-fn layout_is(size: u64, alignment: u64, list: &[u32], count: usize, due: &[u8], m: usize) -> bool {
-    if 8192 < count {
-        return false;
-    }
-    if m != 16 + 4 * count {
-        return false;
-    }
-    if !number_is(due, 0, 8, size) {
-        return false;
-    }
-    if !number_is(due, 8, 8, alignment) {
-        return false;
-    }
-    offsets_are(list, count, due)
-}
-
-// The same for the size, alignment and offsets of a definition: its number in two bytes, then the bundle.
-fn measured(space: &[u8], n: usize, due: &[u8], m: usize) -> bool {
-    if space.len() < n {
-        return false;
-    }
-    if n < 2 {
-        return false;
-    }
-    let definition = wide(space[0]) + 256 * wide(space[1]);
-    let mut list = [0u32; 8192];
-    let answer = offsets::fixed_size(&space[2..n], definition, &mut list);
-    match answer {
-        Fixed::Sized(size, alignment, count) => layout_is(size, alignment, &list, count, due, m),
-        Fixed::Refused(number) => is_refusal(number, due, m),
-    }
+    io::read_full(STDIN_FILENO, &mut space[..n]) == n
 }
 
 fn wide(byte: u8) -> usize
@@ -152,38 +19,108 @@ fn wide(byte: u8) -> usize
     byte as usize
 }
 
-pub enum Outcome {
-    Same,
-    Differs,
+// The number in two bytes.
+fn pair(low: u8, high: u8) -> usize {
+    wide(low) + 256 * wide(high)
+}
+
+// Whether the report of the bundle is the answer in the first m bytes of `due`.
+fn reported(bundle: &[u8], due: &[u8], m: usize) -> bool {
+    let mut out = io::large_buffer();
+    let answer = report::report(bundle, &mut out);
+    stored::is_due(answer, &out, due, m)
+}
+
+// The same for the renumbered bundle.
+fn renumbered(bundle: &[u8], due: &[u8], m: usize) -> bool {
+    let mut out = io::large_buffer();
+    let answer = renumber::renumber(bundle, &mut out);
+    stored::is_due(answer, &out, due, m)
+}
+
+// The same for the size, alignment and offsets of a definition.
+fn measured(bundle: &[u8], definition: usize, due: &[u8], m: usize) -> bool {
+    let mut list = [0u32; 8192];
+    let answer = offsets::fixed_size(bundle, definition, &mut list);
+    match answer {
+        Fixed::Sized(size, alignment, count) => stored::layout_is(
+            size,
+            alignment,
+            &list,
+            count,
+            due,
+            m,
+        ),
+        Fixed::Refused(number) => stored::is_refusal(number, due, m),
+    }
+}
+
+// The same for the value of the size of a definition.
+fn valued(bundle: &[u8], definition: usize, due: &[u8], m: usize) -> bool {
+    let answer = size_value::size_value(bundle, definition);
+    match answer {
+        Valued::Is(value) => stored::value_is(value, due, m),
+        Valued::Refused(number) => stored::is_refusal(number, due, m),
+    }
+}
+
+// The same for a definition whose number stands in two bytes before the bundle.
+fn named(kind: u8, asked: &[u8], due: &[u8], m: usize) -> bool {
+    if asked.len() < 2 {
+        return false;
+    }
+    let definition = pair(asked[0], asked[1]);
+    if kind == 2 {
+        return measured(&asked[2..], definition, due, m);
+    }
+    if kind == 3 {
+        return valued(&asked[2..], definition, due, m);
+    }
+    false
+}
+
+// Whether the answer to what is asked in the first n bytes is the one in the first m of `due`.
+fn answered(kind: u8, space: &[u8], n: usize, due: &[u8], m: usize) -> bool {
+    if space.len() < n {
+        return false;
+    }
+    let asked = &space[..n];
+    if kind == 0 {
+        return reported(asked, due, m);
+    }
+    if kind == 1 {
+        return renumbered(asked, due, m);
+    }
+    named(kind, asked, due, m)
+}
+
+// What a case starts with: 0 for a report, 1 for a renumbering, 2 for a fixed size or 3 for a value, and the lengths of what is asked and of
+// the answer.
+pub enum Head {
+    Case(u8, usize, usize),
     End,
 }
 
-// What came of a case.
-fn outcome_of(same: bool) -> Outcome {
-    if same {
-        Outcome::Same
-    } else {
-        Outcome::Differs
-    }
-}
-
-// One case: 0 for a report, 1 for a renumbering or 2 for a fixed size, the lengths of the bundle and of the answer, two bytes each, and then both.
-fn run_case(space: &mut [u8], due: &mut [u8], out: &mut [u8]) -> Outcome {
+// Reads the head of a case: its kind, and the two lengths in two bytes each.
+fn read_head() -> Head {
     let mut head = [0u8; 5];
     if io::read_full(STDIN_FILENO, &mut head) < 5 {
-        return Outcome::End;
+        return Head::End;
     }
-    let n = wide(head[1]) + 256 * wide(head[2]);
-    let m = wide(head[3]) + 256 * wide(head[4]);
-    read_first(space, n);
-    read_first(due, m);
-    if head[0] == 0 {
-        return outcome_of(reported(space, n, due, m, out));
+    Head::Case(head[0], pair(head[1], head[2]), pair(head[3], head[4]))
+}
+
+// Reads what is asked and the answer, and compares.
+fn run_case(kind: u8, n: usize, m: usize) -> bool {
+    let mut space = io::large_buffer();
+    let mut due = io::large_buffer();
+    if !read_first(&mut space, n) {
+        return false;
     }
-    if head[0] == 1 {
-        return outcome_of(renumbered(space, n, due, m, out));
+    if !read_first(&mut due, m) {
+        return false;
     }
-    outcome_of(measured(space, n, due, m))
+    answered(kind, &space, n, &due, m)
 }
 
 // How many cases gave the answer due, and how many another one.
@@ -192,25 +129,16 @@ pub struct Tally {
     pub other: u64,
 }
 
-fn counted(tally: Tally, outcome: Outcome) -> Tally {
-    match outcome {
-        Outcome::Same => Tally {
+fn counted(tally: Tally, same: bool) -> Tally {
+    if same {
+        return Tally {
             same: std::num::wrapping_add_u64(tally.same, 1),
             other: tally.other,
-        },
-        Outcome::Differs => Tally {
-            same: tally.same,
-            other: std::num::wrapping_add_u64(tally.other, 1),
-        },
-        Outcome::End => tally,
+        };
     }
-}
-
-fn is_end(outcome: Outcome) -> bool {
-    match outcome {
-        Outcome::Same => false,
-        Outcome::Differs => false,
-        Outcome::End => true,
+    Tally {
+        same: tally.same,
+        other: std::num::wrapping_add_u64(tally.other, 1),
     }
 }
 
@@ -221,20 +149,21 @@ fn print(tally: Tally) {
     io::write_all(STDOUT_FILENO, b" others\n");
 }
 
-fn main() {
-    let mut space = io::large_buffer();
-    let mut due = io::large_buffer();
-    let mut out = io::large_buffer();
+// The cases up to the last, but no more than 4,000.
+fn run_cases() -> Tally {
     let mut tally = Tally { same: 0, other: 0 };
     let mut left: usize = 4000;
     while 0 < left {
-        let outcome = run_case(&mut space, &mut due, &mut out);
-        if is_end(outcome) {
-            print(tally);
-            return;
-        }
-        tally = counted(tally, outcome);
+        let head = read_head();
+        let Head::Case(kind, n, m) = head else {
+            return tally;
+        };
+        tally = counted(tally, run_case(kind, n, m));
         left -= 1;
     }
-    print(tally);
+    tally
+}
+
+fn main() {
+    print(run_cases());
 }

@@ -1,0 +1,4 @@
+pub mod Standing
+pub mod Numbers
+pub mod Answers
+pub mod Bits
