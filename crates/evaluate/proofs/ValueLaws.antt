@@ -33,7 +33,6 @@ use Rattle.fixed_meaning.specs.Value as meaning
 use Rattle.fixed_meaning.specs.Value.{valued, unvalued, literalValue, operations, operationOf, applied, operatedBy, operated, valueOf}
 use Rattle.fixed_meaning.specs.Fixed.{countBy, countOf}
 use Rattle.fixed_meaning.proofs.Every.{every-at}
-use Rattle.extents.specs.declared.Counted.{Counted}
 use Rattle.extents.specs.declared.Counted.the-variants.{Of, Nothing}
 use Rattle.extents.specs.Meant.{countMeant}
 use Rattle.values.specs.declared.Valued.{Valued}

@@ -1,18 +1,18 @@
 -- The meaning of an expression gives the values and numbers that the sentences of the document give, and no others.
-use Prim.Native.Nat.{ℕ, _≤_, _<_}
+use Prim.Native.Nat.{ℕ, _≤_}
 use native.Mathlib.Omega.{arith}
 use mathlib.Core.Bool.{Bool, true, false, cond, not}
-use mathlib.Core.Logic.{_↔_, _⊎_, inl, inr}
+use mathlib.Core.Logic.{_⊎_, inl, inr}
 use mathlib.Core.Option.{Option, none, some}
 use mathlib.Core.Path.{_≡_, refl, sym, ap, ap₂, subst, _∙_}
-use lib.IntN.{ℤ, pos, _+ℤ_, _-ℤ_, _*ℤ_}
+use lib.IntN.{ℤ, pos}
 use lib.Signed.{ltZ, leZ, _<ℤ_, _≤ℤ_, quotZ, remZ}
 use Rattle.meaning.specs.Tree.{Expr, literal, fieldRef, sizeof, alignof, binary, unary}
 use Rattle.fixed_meaning.specs.Value.{Value, valued, unvalued, ranged, literalValue, eqZ, divided, operations, operationOf, applied, operatedBy, operated, valueOf}
-use Rattle.fixed_laws.specs.Expressions.{InRange, Stands, unsigned, i64, i32, i16, i8, Division, Truth, Makes, add, sub, mul, div, rem, eq, ne, lt, gt, le, ge, Covered, HasValue, aLiteral, aResult, NoValue, literalOutside, otherLiteral, aFieldRef, aSizeof, anAlignof, aUnary, otherBinary, left, right, zeroDivisor, outside, Values}
+use Rattle.fixed_laws.specs.Expressions.{InRange, Stands, unsigned, i64, i32, i16, i8, Makes, add, sub, mul, div, rem, eq, ne, lt, gt, le, ge, Covered, HasValue, aLiteral, aResult, NoValue, literalOutside, otherLiteral, aFieldRef, aSizeof, anAlignof, aUnary, otherBinary, left, right, zeroDivisor, outside, Values}
 use Rattle.fixed_laws.proofs.Divisions.{division-is, divisor-is, division-one}
 use Rattle.fixed_laws.proofs.Exchanged.{value-same}
-use Rattle.fixed_laws.proofs.Operating.{Stops, byZero, tooFar, Gives, gives, stops, Right, operation-there, operation-right}
+use Rattle.fixed_laws.proofs.Operating.{byZero, tooFar, Gives, gives, stops, Right, operation-there, operation-right}
 use Rattle.fixed_laws.proofs.Ranged.{no-number, Ranged, within, beyond, range-of, in-ranged, out-ranged, Literal, stands, other, literal-of, stands-one, Says, says-truth, says-eq, says-not, says-lt, says-le}
 
 -- What the meaning gives, the sentences give.
@@ -38,7 +38,7 @@ unfolding operated operatedBy applied
 judged-binary k l r v w jl jr = go (operationOf operations k) refl
   where
     go : (o : Option (ℤ → ℤ → Value)) → operationOf operations k ≡ o → Judged (binary k l r) (operatedBy o v w)
-    go none p = noValue (otherBinary (λ c. nothing (operation-there k c .1 ))) refl
+    go none p = noValue (otherBinary (λ c. nothing (operation-there k c .1))) refl
       where
         nothing : {f : ℤ → ℤ → Value} → operationOf operations k ≡ some f → ⊥
         nothing q = let z : none ≡ some _ = sym p ∙ q in let y : _≡_ {A = ℕ} 0 1 = cc in omega arith

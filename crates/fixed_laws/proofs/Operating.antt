@@ -1,19 +1,19 @@
 -- What the operations of the table make of two values is what the sentences say.
-use Prim.Native.Nat.{ℕ, zero, suc, _+_, _-_, _≤_, _<_}
+use Prim.Native.Nat.{ℕ, _+_, _-_, _≤_}
 use native.Mathlib.Omega.{arith}
 use mathlib.Core.Bool.{Bool, true, false, cond, not}
 use mathlib.Core.List.{List, [], _∷_}
 use mathlib.Core.Logic.{_⊎_, inl, inr}
 use mathlib.Core.Option.{Option, none, some}
-use mathlib.Core.Path.{_≡_, refl, sym, ap, subst, _∙_}
+use mathlib.Core.Path.{_≡_, refl, sym, subst}
 use lib.Dec.{T, eqb}
 use lib.IntN.{ℤ, pos, _+ℤ_, _-ℤ_, _*ℤ_}
 use lib.Signed.{ltZ, leZ, _<ℤ_, _≤ℤ_, quotZ, remZ}
 use borrow.Author.Tests.{eqb-true}
-use Rattle.fixed_meaning.specs.Value.{Value, valued, unvalued, ranged, eqZ, truth, divided, operations, operationOf, applied, operatedBy, operated}
-use Rattle.fixed_meaning.proofs.Every.{every, every-at}
-use Rattle.fixed_laws.specs.Expressions.{InRange, Division, Truth, Makes, add, sub, mul, div, rem, eq, ne, lt, gt, le, ge, Covered, arithmetic, comparison}
-use Rattle.fixed_laws.proofs.Divisions.{division-is, divisor-is, division-one}
+use Rattle.fixed_meaning.specs.Value.{Value, valued, unvalued, ranged, eqZ, truth, divided, operations, operationOf}
+use Rattle.fixed_meaning.proofs.Every.{every-at}
+use Rattle.fixed_laws.specs.Expressions.{InRange, Truth, Makes, add, sub, mul, div, rem, eq, ne, lt, gt, le, ge, Covered, arithmetic, comparison}
+use Rattle.fixed_laws.proofs.Divisions.{division-is}
 use Rattle.fixed_laws.proofs.Ranged.{Ranged, within, beyond, range-of, Says, truth-says, says-truth, says-eq, says-not, says-lt, says-le}
 
 -- kind k makes no value of l and r, and why

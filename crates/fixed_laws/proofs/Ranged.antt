@@ -1,20 +1,16 @@
 -- Ranges, literals and tests of the meaning, as the sentences say them.
-use Prim.Native.Nat.{ℕ, zero, suc, _-_, _*_, _^_, _≤_, _<_}
+use Prim.Native.Nat.{ℕ, suc, _*_, _^_, _≤_, _<_}
 use native.Mathlib.Nat.{mul-comm, pow-suc}
 use native.Mathlib.Omega.{arith}
-use mathlib.Core.Bool.{Bool, true, false, cond, _&&_, not}
-use mathlib.Core.List.{List, [], _∷_}
-use mathlib.Core.Logic.{_⊎_, inl, inr}
-use mathlib.Core.Option.{Option, none, some}
-use mathlib.Core.Path.{_≡_, refl, sym, ap, ap₂, subst, _∙_}
+use mathlib.Core.Bool.{Bool, true, false, cond, not}
+use mathlib.Core.Path.{_≡_, refl, sym, ap, _∙_}
 use lib.Dec.{T, eqb, leb, ltb}
-use lib.IntN.{ℤ, pos, negsuc, negℤ, pos-ne-negsuc, _+ℤ_, _-ℤ_, _*ℤ_, +ℤ-negℤ-cancel, -ℤ-+ℤ-cancel}
-use lib.Signed.{mag, ltZ, leZ, _<ℤ_, _≤ℤ_, quotZ, remZ}
-use borrow.Author.Tests.{eqb-true, eqb-false, eq-eqb, ne-eqb, leb-true, leb-false, ltb-true, ltb-false, le-leb, lt-leb, lt-ltb, le-ltb}
-use Rattle.meaning.specs.Tree.{Expr, literal, fieldRef, sizeof, alignof, binary, unary}
-use Rattle.fixed_meaning.specs.Value.{Value, valued, unvalued, ranged, signedLimit, complement, literalValue, eqZ, truth, divided, operations, operationOf, applied, operatedBy, operated, valueOf}
-use Rattle.fixed_laws.specs.Expressions.{InRange, Complement, plus, minus, Stands, unsigned, i64, i32, i16, i8, Division, Truth, holds, fails, Makes, add, sub, mul, div, rem, eq, ne, lt, gt, le, ge, Covered, arithmetic, comparison, HasValue, aLiteral, aResult, NoValue, literalOutside, otherLiteral, aFieldRef, aSizeof, anAlignof, aUnary, otherBinary, left, right, zeroDivisor, outside}
-use Rattle.fixed_laws.proofs.Divisions.{division-is, divisor-is, division-one}
+use lib.IntN.{ℤ, pos, negsuc, pos-ne-negsuc, _+ℤ_, _-ℤ_, +ℤ-negℤ-cancel, -ℤ-+ℤ-cancel}
+use lib.Signed.{mag, ltZ, leZ, _<ℤ_, _≤ℤ_}
+use borrow.Author.Tests.{eqb-true, eqb-false, leb-true, leb-false, ltb-true, ltb-false, le-leb, lt-ltb, le-ltb}
+use Rattle.meaning.specs.Tree.{literal}
+use Rattle.fixed_meaning.specs.Value.{valued, unvalued, ranged, signedLimit, complement, literalValue, eqZ, truth}
+use Rattle.fixed_laws.specs.Expressions.{InRange, Complement, plus, minus, Stands, unsigned, i64, i32, i16, i8, Truth, holds, fails, lt, le, outside}
 
 -- Impossible equations.
 

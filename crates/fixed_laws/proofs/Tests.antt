@@ -1,12 +1,12 @@
 -- The functions of the meaning give what the rule says: alignments, counts, and which aligned are allowed.
-use Prim.Native.Nat.{ℕ, suc, _-_, _^_, _<_, max}
+use Prim.Native.Nat.{ℕ, _^_, max}
 use native.Mathlib.Omega.{arith}
 use mathlib.Core.Bool.{Bool, true, false, cond, _||_}
 use mathlib.Core.Option.{Option, none, some}
 use mathlib.Core.Path.{_≡_, refl, sym, ap, subst, _∙_}
 use lib.Dec.{eqb, leb}
 use lib.IntN.{pos, negsuc}
-use borrow.Author.Tests.{eqb-true, eqb-false, eq-eqb, ne-eqb, leb-true, leb-false, ltb-true, le-leb, lt-ltb}
+use borrow.Author.Tests.{eqb-true, eqb-false, eq-eqb, ne-eqb, leb-true, leb-false}
 use Rattle.meaning.specs.Lists.{any}
 use Rattle.meaning.specs.Circle.{numbersBelow}
 use Rattle.meaning.specs.Tree.{Expr, Attributes}

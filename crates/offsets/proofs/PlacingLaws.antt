@@ -2,14 +2,13 @@
 use Prim.Native.Nat.{ℕ, zero, suc, _+_, _-_, _*_, _≤_, _<_, max}
 use native.Mathlib.Omega.{arith}
 use native.Mathlib.Numerals.{add-one}
-use native.Mathlib.Nat.{le-of-suc-le-suc}
 use mathlib.Core.Bool.{Bool, true, false, cond, true≢false, false≢true}
-use mathlib.Core.List.{List, [], _∷_, _++_, map, List·Memᴰ, List·Memᴰ·head, append-assoc, append-nil}
+use mathlib.Core.List.{List, [], _∷_, _++_, List·Memᴰ, List·Memᴰ·head, append-assoc, append-nil}
 use mathlib.Core.Option.{none as nothing}
 use mathlib.Core.Path.{_≡_, refl, sym, ap, subst, _∙_}
 use types.Run.{OneOf, miss}
 use denote.Enum.Declared.{tagOf}
-use lib.ListN.{length, getD, set, take, drop, getElem?, length-set, length-map, take-append-drop}
+use lib.ListN.{length, getD, set, take, drop, length-set, take-append-drop}
 use lib.Seq.{take-suc-set, drop-set-lt}
 use borrow.Author.Tests.{le-leb, lt-leb, leb-true}
 use lib.Dec.{leb}

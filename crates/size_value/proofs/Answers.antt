@@ -34,7 +34,6 @@ use Rattle.bundle.proofs.TypeTrees.{primitive-tree, typeRef-tree, struct-tree, 
 use Rattle.fixed_meaning.specs.Value.{Value, unvalued, valueOf}
 use Rattle.fixed_meaning.specs.Valuing.{arrayValue, valueDue, valuing}
 use Rattle.fixed_meaning.proofs.Within.{no-definition}
-use Rattle.values.specs.declared.Valued.{Valued}
 use Rattle.values.specs.declared.Valued.the-variants.{Refused}
 use Rattle.values.specs.Meant.{valueMeant}
 

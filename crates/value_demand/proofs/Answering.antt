@@ -1,5 +1,5 @@
 -- Demand 1 holds of every call for the value of a size.
-use Prim.Native.Nat.{ℕ, _≤_}
+use Prim.Native.Nat.{ℕ}
 use native.Mathlib.Omega.{arith}
 use mathlib.Core.Bool.{Bool, true, false, cond}
 use mathlib.Core.List.{List, [], _∷_}
@@ -14,14 +14,13 @@ use Rattle.meaning.specs.Lookup.{typeAt}
 use Rattle.meaning.specs.Reader.{Read, ok, refused}
 use Rattle.meaning.specs.ReadBundle.{readBundle}
 use Rattle.meaning.specs.Calls.{Outcome, result, refusal, dueOf, onBundle}
-use Rattle.refusals.specs.Numbers.{Keeps, Number, numberOf}
+use Rattle.refusals.specs.Numbers.{Keeps, numberOf}
 use Rattle.refusals.proofs.Laws.{number-is as refused-number}
 use Rattle.refusals.proofs.Unique.{one-to-eight}
 use Rattle.demands.proofs.Kept.{accepted-kept, cases}
 use Rattle.demands.proofs.Answering.{due-refused, kept-due}
 use Rattle.fixed_meaning.specs.Value.{Value, valued, unvalued, valueOf}
 use Rattle.fixed_meaning.specs.Valuing.{arrayValue, valueDue, valuing}
-use Rattle.fixed_laws.specs.Expressions.{HasValue, NoValue}
 use Rattle.fixed_laws.proofs.Evaluating.{has-valued, no-valued, value-is, number-is, number-range}
 use Rattle.values.specs.declared.Valued.{Valued}
 use Rattle.values.specs.declared.Valued.the-variants.{Is, Refused}

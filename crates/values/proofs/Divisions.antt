@@ -1,17 +1,15 @@
 -- Quotients and remainders, each in the form in which the code tests and returns it.
-use Prim.Native.Nat.{ℕ, zero, suc, _*_, _/_, _%_, _≤_, _<_}
+use Prim.Native.Nat.{ℕ, zero, suc, _/_, _≤_, _<_}
 use native.Mathlib.Nat.{div-le-self, div-one, mod-one, div-lt-iff-lt-mul}
 use native.Mathlib.Omega.{arith}
-use mathlib.Core.Bool.{Bool, true, false, cond}
 use mathlib.Core.Path.{_≡_, refl, sym, ap, ap₂, _∙_}
-use lib.Dec.{eqb}
-use lib.IntN.{ℤ, pos, negsuc, negℤ, natAbs, _-ℤ_}
+use lib.IntN.{ℤ, pos, negsuc, negℤ, _-ℤ_}
 use lib.Signed.{mag, mag-rem, quotZ, remZ}
 use mir.Syntax.{w64}
-use mir.Val.{SFits, toZ, ofZ}
+use mir.Val.{SFits, ofZ}
 use mir.ValLaws.{toZ-ofZ}
 use borrow.Author.Tests.{ne-eqb, lt-ltb}
-use Rattle.fixed_meaning.specs.Value.{Value, valued, unvalued, ranged, eqZ, divided}
+use Rattle.fixed_meaning.specs.Value.{ranged, eqZ, divided}
 use Rattle.values.specs.declared.Valued.the-variants.{Is, Refused}
 use Rattle.values.specs.Meant.{valueMeant}
 use Rattle.values.proofs.Ranges.{fits-ranged}

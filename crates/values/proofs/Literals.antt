@@ -1,17 +1,16 @@
 -- Literals, each in the form in which the code returns it.
-use Prim.Native.Nat.{ℕ, zero, suc, _+_, _-_, _*_, _≤_, _<_}
+use Prim.Native.Nat.{ℕ, zero, suc, _-_, _*_, _≤_, _<_}
 use native.Mathlib.Omega.{arith}
-use mathlib.Core.Path.{_≡_, refl, ap, subst, _∙_}
-use lib.IntN.{ℤ, pos, negsuc, _+ℤ_, _-ℤ_}
+use mathlib.Core.Path.{_≡_, refl, ap, _∙_}
+use lib.IntN.{pos, negsuc, _-ℤ_}
 use mir.Syntax.{w64}
-use mir.Val.{SFits, toZ, ofZ}
+use mir.Val.{SFits, toZ}
 use mir.ValLaws.{toZ-ofZ}
 use borrow.Author.Tests.{le-leb, lt-leb, lt-ltb, le-ltb}
-use Rattle.fixed_meaning.specs.Value.{unvalued, ranged, signedLimit, complement, literalValue}
-use Rattle.values.specs.declared.Valued.{Valued}
+use Rattle.fixed_meaning.specs.Value.{ranged, signedLimit, complement, literalValue}
 use Rattle.values.specs.declared.Valued.the-variants.{Is, Refused}
 use Rattle.values.specs.Meant.{valueMeant}
-use Rattle.values.proofs.Ranges.{plus-out, minus-out, fits-ranged}
+use Rattle.values.proofs.Ranges.{plus-out, minus-out}
 use Rattle.values.proofs.Sums.{back, returned}
 
 -- n, and one below -n

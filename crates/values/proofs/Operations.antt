@@ -1,5 +1,5 @@
 -- The kinds that are covered, and what each makes of two values.
-use Prim.Native.Nat.{ℕ, zero, suc, _+_, _-_, _≤_, _<_}
+use Prim.Native.Nat.{ℕ, _+_, _-_, _≤_, _<_}
 use native.Mathlib.Omega.{arith}
 use mathlib.Core.Bool.{Bool, true, false, not}
 use mathlib.Core.List.{List, [], _∷_}
@@ -13,9 +13,8 @@ use mir.Syntax.{w64}
 use mir.Val.{SFits, toZ, ofZ}
 use mir.ValLaws.{toZ-ofZ}
 use borrow.Author.Tests.{eqb-true, eqb-false, eq-eqb, ne-eqb}
-use Rattle.fixed_meaning.specs.Value.{Value, valued, unvalued, ranged, eqZ, truth, divided, operations, operationOf, applied, operatedBy, operated}
+use Rattle.fixed_meaning.specs.Value.{Value, valued, eqZ, truth, operations, operationOf, applied, operatedBy, operated}
 use Rattle.fixed_meaning.proofs.Every.{every, every-at}
-use Rattle.values.specs.declared.Valued.{Valued}
 use Rattle.values.specs.declared.Valued.the-variants.{Is, Refused}
 use Rattle.values.specs.Meant.{valueMeant, covers}
 use Rattle.values.proofs.Sums.{back}

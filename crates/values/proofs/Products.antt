@@ -3,15 +3,15 @@ use Prim.Native.Nat.{ℕ, zero, suc, _+_, _*_, _/_, _≤_, _<_}
 use native.Mathlib.Nat.{div-lt-iff-lt-mul, le-div-iff-mul-le, mul-comm, zero-mul}
 use native.Mathlib.Omega.{arith}
 use mathlib.Core.Bool.{Bool, true, false}
-use mathlib.Core.Path.{_≡_, refl, sym, ap, ap₂, subst, _∙_}
+use mathlib.Core.Path.{_≡_, refl, sym, ap, ap₂, _∙_}
 use lib.Dec.{T}
 use lib.IntN.{ℤ, pos, negsuc, negℤ, natAbs, _-ℤ_, _*ℤ_}
-use lib.Signed.{mag, leZ, nonNeg}
+use lib.Signed.{leZ, nonNeg}
 use mir.Syntax.{w64}
 use mir.Val.{Fits, SFits, toZ, ofZ}
 use mir.ValLaws.{toZ-ofZ}
 use borrow.Author.Tests.{le-leb, le-ltb}
-use Rattle.fixed_meaning.specs.Value.{valued, unvalued, ranged}
+use Rattle.fixed_meaning.specs.Value.{unvalued, ranged}
 use Rattle.values.specs.declared.Valued.the-variants.{Is, Refused}
 use Rattle.values.specs.Meant.{valueMeant, furthest}
 use Rattle.values.proofs.Ranges.{plus-out, minus-out, fits-ranged}

@@ -9,7 +9,7 @@ use lib.Signed.{mag, ltZ, leZ}
 use mir.Syntax.{w64}
 use mir.Val.{SFits}
 use borrow.Author.Tests.{ltb-true, ltb-false, le-leb, lt-leb}
-use Rattle.fixed_meaning.specs.Value.{Value, valued, unvalued, ranged}
+use Rattle.fixed_meaning.specs.Value.{valued, unvalued, ranged}
 
 -- how far: 2 to the 66th
 abbrev pub S : ℕ

@@ -1,7 +1,6 @@
 use borrow.Author.Needs.{needs}
 use Rattle.values.proofs.literal_value.Statement.{statement}
 use Rattle.values.proofs.literal_value.Tie as tie
-use native.Mathlib.Omega.{arith}
 use mathlib.Core.Path.{_∙_}
 use Rattle.values.proofs.Literals.{unsigned, signed, no-literal}
 

@@ -1,4 +1,3 @@
-use borrow.Author.Needs.{needs}
 use Rattle.values.proofs.magnitude.Statement.{statement}
 use Rattle.values.proofs.magnitude.Tie as tie
 use Rattle.values.proofs.Products.{plus-casts, plus-distance, minus-fits, minus-casts, minus-more, minus-distance}

@@ -3,7 +3,6 @@ use Rattle.values.proofs.operate.Statement.{statement}
 use Rattle.values.proofs.operate.Tie as tie
 use mathlib.Core.Bool.{not}
 use mathlib.Core.Path.{refl, ap, _∙_}
-use lib.Signed.{ltZ, leZ}
 use Rattle.fixed_meaning.specs.Value.{operationOf, truth}
 use Rattle.values.proofs.Operations.{same-test, by-kind, by-kind-back, other-kind}
 
