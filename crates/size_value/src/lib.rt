@@ -46,9 +46,7 @@ pub fn size_value(bundle: &[u8], definition: usize) -> Valued
     let mut places = [0u16; bundle::PLACES];
     let opening = acceptance::open(bundle, &mut places);
     match opening {
-        Opening::Opened(layout) => {
-            value_opened(bundle, &places, layout.definitions, definition)
-        }
+        Opening::Opened(layout) => { value_opened(bundle, &places, layout.definitions, definition) }
         Opening::Refused(k) => Valued::Refused(k),
     }
 }

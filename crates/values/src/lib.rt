@@ -13,6 +13,7 @@ pub enum Valued {
 }
 
 const GREATEST: i64 = 9223372036854775807;
+
 const LEAST: i64 = -9223372036854775808;
 
 // n
@@ -121,9 +122,17 @@ fn furthest_product(l: i64, r: i64) -> u64
     ensures { λ x. ⌜ x ≡ furthest (leZ (pos 0) l) (leZ (pos 0) r) ⌝ }
 {
     if 0 <= l {
-        return if 0 <= r { 9223372036854775807 } else { 9223372036854775808 };
+        return if 0 <= r {
+            9223372036854775807
+        } else {
+            9223372036854775808
+        };
     }
-    if 0 <= r { 9223372036854775808 } else { 9223372036854775807 }
+    if 0 <= r {
+        9223372036854775808
+    } else {
+        9223372036854775807
+    }
 }
 
 fn multiply(l: i64, r: i64) -> Valued
