@@ -41,6 +41,12 @@ enum-known-order-2 c = search needs
 respond-size-requires : tie.Need-respond-size-requires
 respond-size-requires c κs = search needs
 
+enum-known-order-3 : tie.Need-enum-known-order-3
+enum-known-order-3 c = search needs
+
+respond-value-requires : tie.Need-respond-value-requires
+respond-value-requires c κs = search needs
+
 enum-told-3 : tie.Need-enum-told-3
 enum-told-3 c = search needs
 
@@ -71,11 +77,17 @@ same-length-4 c = search needs
 returns-4 : tie.Need-returns-4
 returns-4 c = rw (c .before .before .before .before .before .order2 .given .1) (c .before .before .respond-size .ensures)
 
+same-length-5 : tie.Need-same-length-5
+same-length-5 c = search needs
+
 returns-5 : tie.Need-returns-5
-returns-5 c = search needs
+returns-5 c = rw (c .before .before .before .before .before .order3 .given .1) (c .before .before .respond-value .ensures)
 
 returns-6 : tie.Need-returns-6
 returns-6 c = search needs
+
+returns-7 : tie.Need-returns-7
+returns-7 c = search needs
 
 pub answer-spec : {M : Type 1} → statement M
 answer-spec =
@@ -93,6 +105,8 @@ answer-spec =
     respond-chain-requires
     enum-known-order-2
     respond-size-requires
+    enum-known-order-3
+    respond-value-requires
     enum-told-3
     enum-told-4
     same-length
@@ -103,5 +117,7 @@ answer-spec =
     returns-3
     same-length-4
     returns-4
+    same-length-5
     returns-5
-    returns-6)
+    returns-6
+    returns-7)
