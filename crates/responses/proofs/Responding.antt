@@ -70,7 +70,7 @@ unfolding responseTo
 refuses o {out = out} {r = r} c e w = subst (λ a. Holds (written a o) out r) (sym e ∙ c .answer) w
 
 -- a report's room is a part of all the room
-module _ (out : List ℕ) (enough : 90154 ≤ length out) where
+module _ (out : List ℕ) (enough : 65536 ≤ length out) where
   pub report-room : length (take 65536 out) ≡ 65536
   report-room = length-take-le 65536 out (omega arith)
 

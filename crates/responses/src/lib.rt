@@ -46,20 +46,22 @@ fn finish(answer: Answer, out: &mut [u8]) -> usize
 
 // The report.
 fn respond(bundle: &[u8], out: &mut [u8]) -> usize
-    requires { ⌜ 2 ≤ length (now out) ⌝ }
-    ensures { λ r. ⌜ Holds (responseTo (reporting (now (bundle .entry))) (length (now (out .entry)))) (now (out .exit)) r ⌝ }
+    requires { ⌜ 65536 ≤ length (now out) ⌝ }
+    ensures { λ r. ⌜ Holds (responseTo (reporting (now (bundle .entry))) 65536) (now (out .exit)) r ⌝ }
 {
-    let answer = report::report(bundle, out);
-    finish(answer, out)
+    let room = &mut out[..REPORT_ROOM];
+    let answer = report::report(bundle, room);
+    finish(answer, room)
 }
 
 // The bundle with its names renumbered.
 fn respond_renumbered(bundle: &[u8], out: &mut [u8]) -> usize
-    requires { ⌜ 2 ≤ length (now out) ⌝ }
-    ensures { λ r. ⌜ Holds (responseTo (renumbering (now (bundle .entry))) (length (now (out .entry)))) (now (out .exit)) r ⌝ }
+    requires { ⌜ 65536 ≤ length (now out) ⌝ }
+    ensures { λ r. ⌜ Holds (responseTo (renumbering (now (bundle .entry))) 65536) (now (out .exit)) r ⌝ }
 {
-    let answer = renumber::renumber(bundle, out);
-    finish(answer, out)
+    let room = &mut out[..REPORT_ROOM];
+    let answer = renumber::renumber(bundle, room);
+    finish(answer, room)
 }
 
 // The names of the chain, each to a line.
@@ -110,8 +112,8 @@ pub fn answer(order: Order, bundle: &[u8], out: &mut [u8]) -> usize
     ensures { λ r. ⌜ Holds (answerTo order (now (bundle .entry))) (now (out .exit)) r ⌝ }
 {
     match order {
-        Order::Report => respond(bundle, &mut out[..REPORT_ROOM]),
-        Order::Renumber => respond_renumbered(bundle, &mut out[..REPORT_ROOM]),
+        Order::Report => respond(bundle, out),
+        Order::Renumber => respond_renumbered(bundle, out),
         Order::Chain(from, to) => respond_chain(bundle, from, to, out),
         Order::Size(definition) => respond_size(bundle, definition, out),
         Order::Value(definition) => respond_value(bundle, definition, out),

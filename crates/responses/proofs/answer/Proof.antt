@@ -1,33 +1,18 @@
 use borrow.Author.Needs.{needs}
 use Rattle.responses.proofs.answer.Statement.{statement}
 use Rattle.responses.proofs.answer.Tie as tie
-use native.Mathlib.Omega.{arith}
-use mathlib.Core.Path.{sym}
-use Rattle.responses.proofs.Responding.{report-room, in-part}
 
 enum-told : tie.Need-enum-told
 enum-told c = search needs
 
-slice-relend-prefix-respond : tie.Need-slice-relend-prefix-respond
-slice-relend-prefix-respond c = search needs
-
-slice-aggregate-respond : tie.Need-slice-aggregate-respond
-slice-aggregate-respond c = sym (report-room (c .before .before .before .before .before .args .out .now) (c .before .before .before .before .before .pre))
-
 respond-requires : tie.Need-respond-requires
-respond-requires c κs = omega (arith, report-room (c .before .before .before .before .before .args .out .now) (c .before .before .before .before .before .pre))
+respond-requires c κs = search needs
 
 enum-told-2 : tie.Need-enum-told-2
 enum-told-2 c = search needs
 
-slice-relend-prefix-respond-renumbered : tie.Need-slice-relend-prefix-respond-renumbered
-slice-relend-prefix-respond-renumbered c = search needs
-
-slice-aggregate-respond-renumbered : tie.Need-slice-aggregate-respond-renumbered
-slice-aggregate-respond-renumbered c = sym (report-room (c .before .before .before .before .before .args .out .now) (c .before .before .before .before .before .pre))
-
 respond-renumbered-requires : tie.Need-respond-renumbered-requires
-respond-renumbered-requires c κs = omega (arith, report-room (c .before .before .before .before .before .args .out .now) (c .before .before .before .before .before .pre))
+respond-renumbered-requires c κs = search needs
 
 enum-known-order : tie.Need-enum-known-order
 enum-known-order c = search needs
@@ -57,13 +42,13 @@ same-length : tie.Need-same-length
 same-length c = search needs
 
 returns : tie.Need-returns
-returns c = rw (c .before .before .before .before .enum-told .given .1) (in-part (c .before .before .before .before .before .before .before .before .args .out .now) (c .before .before .before .before .before .before .before .before .pre) _ _ (c .before .before .respond .ensures))
+returns c = rw (c .before .before .before .before .enum-told .given .1) (c .before .before .respond .ensures)
 
 same-length-2 : tie.Need-same-length-2
 same-length-2 c = search needs
 
 returns-2 : tie.Need-returns-2
-returns-2 c = rw (c .before .before .before .before .enum-told2 .given .1) (in-part (c .before .before .before .before .before .before .before .before .args .out .now) (c .before .before .before .before .before .before .before .before .pre) _ _ (c .before .before .respond-renumbered .ensures))
+returns-2 c = rw (c .before .before .before .before .enum-told2 .given .1) (c .before .before .respond-renumbered .ensures)
 
 same-length-3 : tie.Need-same-length-3
 same-length-3 c = search needs
@@ -94,12 +79,8 @@ answer-spec =
     tie.close
     (tie.spec
     enum-told
-    slice-relend-prefix-respond
-    slice-aggregate-respond
     respond-requires
     enum-told-2
-    slice-relend-prefix-respond-renumbered
-    slice-aggregate-respond-renumbered
     respond-renumbered-requires
     enum-known-order
     respond-chain-requires
