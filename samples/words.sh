@@ -7,7 +7,7 @@ cd "$(dirname "$0")/.."
 program=${1:-target/bin/layout}
 work=$(mktemp -d)
 trap 'rm -rf "$work"' EXIT
-echo 'layout: wrong arguments; take none, renumber, chain FROM TO, size NUMBER (each 0 to 65535) or help' > "$work/wrong"
+echo 'layout: wrong arguments; take none, renumber, chain FROM TO, size NUMBER, value NUMBER (each 0 to 65535) or help' > "$work/wrong"
 echo 'layout: standard input cannot be read' > "$work/unread"
 echo 'layout: standard output cannot be written' > "$work/unwritten"
 : > "$work/nothing"
@@ -150,6 +150,7 @@ head -c 32769 /dev/zero > "$work/bundle-overlong"
 try overlong renumber 'bytes 7e 01'
 try overlong 'chain 1 1' 'bytes 7e 01'
 try overlong 'size 0' 'bytes 7e 01'
+try overlong 'value 0' 'bytes 7e 01'
 try edges "chain 7 $(printf '%04097d' 9)" wrong
 echo "$passed passed, $failed failed"
 [ "$failed" -eq 0 ]

@@ -1,4 +1,4 @@
--- The decimal text of a name says the name, and starts with 0 only for 0.
+-- The digits of a number have its value; the decimal text of a name says the name, and starts with 0 only for 0.
 use Prim.Native.Nat.{ℕ, zero, suc, _+_, _/_, _%_, _≤_, _<_}
 use native.Mathlib.Omega.{arith}
 use native.Mathlib.Decide.{decLt}
@@ -9,6 +9,18 @@ use lib.Seq.{getD-at}
 use Rattle.decimal.specs.Decimal.{decimal, valueFrom, IsDigit, Says}
 use Rattle.decimal.proofs.DecimalLaws.{decimal-one, decimal-more}
 use Rattle.decimal.proofs.Reading.{value-append}
+
+value-by : (k n : ℕ) → n < k → valueFrom 0 (decimal n) ≡ n
+unfolding valueFrom
+value-by zero n h = absurd (omega arith)
+value-by (suc k) n h = go (decLt n 10) (λ l. value-by k (n / 10) l)
+  where
+    go : Dec (n < 10) → (n / 10 < k → valueFrom 0 (decimal (n / 10)) ≡ n / 10) → valueFrom 0 (decimal n) ≡ n
+    go (yes p) tenth = rw (decimal-one n p) (omega arith)
+    go (no p) tenth = rw (decimal-more n (omega arith)) (value-append 0 (decimal (n / 10)) ((48 + n % 10) ∷ []) ∙ omega (arith, tenth (omega arith)))
+
+pub decimal-value : (n : ℕ) → valueFrom 0 (decimal n) ≡ n
+decimal-value n = value-by (suc n) n (omega arith)
 
 says-one : (n : ℕ) → n < 10 → Says ((48 + n) ∷ []) n
 unfolding valueFrom

@@ -4,6 +4,7 @@ use mathlib.Core.Bool.{cond}
 use mathlib.Core.List.{List, [], _∷_, _++_}
 use mathlib.Core.Path.{_≡_}
 use lib.Dec.{ltb}
+use lib.IntN.{ℤ, pos, negsuc}
 use lib.ListN.{length, take, getD}
 
 -- the digits of n, if it has no more than k
@@ -19,6 +20,15 @@ decimal n = digitsOf (suc n) n
 unfoldable pub lines : List ℕ → List ℕ
 lines [] = []
 lines (n ∷ ns) = decimal n ++ 10 ∷ lines ns
+
+-- the decimal text of a whole number: a minus sign and how far it is from 0, where it is negative
+unfoldable pub signed : ℤ → List ℕ
+signed (pos n) = decimal n
+signed (negsuc n) = 45 ∷ decimal (suc n)
+
+-- its text and a line feed
+unfoldable pub signedLine : ℤ → List ℕ
+signedLine z = signed z ++ 10 ∷ []
 
 -- a digit, 0 to 9
 abbrev pub IsDigit : ℕ → Type 0

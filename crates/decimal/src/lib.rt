@@ -2,7 +2,7 @@
 ghost use mathlib.Core.List.{[], _∷_};
 ghost use Prim.Native.Nat.{_+_, _*_, _≤_, _<_};
 ghost use lib.ListN.{length, take};
-ghost use Rattle.decimal.specs.Decimal.{decimal, lines, Writes};
+ghost use Rattle.decimal.specs.Decimal.{decimal, lines, signedLine, Writes};
 ghost use Rattle.decimal.specs.Parsing.{IsParsed};
 ghost use Rattle.decimal.specs.Texts.{Texts};
 
@@ -40,6 +40,19 @@ pub fn put_line(out: &mut [u8], at: usize, n: u64) -> usize
 {
     let next = put_decimal(out, at, n);
     put(out, next, 10)
+}
+
+// Writes the decimal text of a number that may be negative, and a line feed.
+pub fn put_signed(out: &mut [u8], at: usize, n: i64) -> usize
+    requires { ⌜ at + length (signedLine n) ≤ length (now out) ⌝ }
+    ensures { λ r. ⌜ Writes (signedLine n) (now (out .entry)) at (now (out .exit)) r ⌝ }
+{
+    let distance = values::magnitude(n);
+    if 0 <= n {
+        return put_line(out, at, distance);
+    }
+    let next = put(out, at, 45);
+    put_line(out, next, distance)
 }
 
 // Writes the first n names of a list, each to a line, from the first place of `out` on.

@@ -1,6 +1,6 @@
 // Reads a bundle from standard input and writes what the program's arguments ask for to standard output: its report, the bundle with
-// its names renumbered, a chain, or the size of a definition; for a refused bundle 7E and the number of its refusal. Messages go to
-// standard error, as when one of the two fails.
+// its names renumbered, a chain, the size of a definition, or the value of an array's size; for a refused bundle 7E and the number of its
+// refusal. Messages go to standard error, as when one of the two fails.
 use words::Input;
 use words::Message;
 use words::Order;
@@ -87,6 +87,7 @@ fn write(order: Order, answer: &[u8]) -> bool {
               layout renumber       the bundle with its names renumbered\n  \
               layout chain FROM TO  the names on the chain, one to a line\n  \
               layout size NUMBER    the size, alignment and field offsets of a definition\n  \
+              layout value NUMBER   the value of the size of a definition that is an array\n  \
               layout help           this text, as with --help or -h\n\
               NUMBER, FROM and TO are decimal numbers from 0 to 65535.\n\
               A bundle that is refused gets two bytes: 7E and the number.\n",
@@ -112,7 +113,7 @@ fn say(message: Message) {
         Message::Arguments => {
             io::write_all(
                 err,
-                b"layout: wrong arguments; take none, renumber, chain FROM TO, size NUMBER (each 0 to 65535) or help\n",
+                b"layout: wrong arguments; take none, renumber, chain FROM TO, size NUMBER, value NUMBER (each 0 to 65535) or help\n",
             );
         }
         Message::Unread => {

@@ -7,8 +7,12 @@ use mathlib.Core.Option.{Option, none, some}
 use mathlib.Core.Path.{_≡_, refl, sym, ap, subst, _∙_}
 use lib.ListN.{length, take, set, length-append, length-take}
 use lib.Seq.{length-take-le, take-append-le}
-use Rattle.decimal.specs.Decimal.{lines, Writes}
-use Rattle.decimal.proofs.DecimalLaws.{line-size, lines-append}
+use lib.IntN.{ℤ}
+use mir.Syntax.{w64}
+use mir.Val.{SFits, toZ, ofZ}
+use mir.ValLaws.{toZ-ofZ}
+use Rattle.decimal.specs.Decimal.{lines, signedLine, Writes}
+use Rattle.decimal.proofs.DecimalLaws.{line-size, lines-append, signed-size}
 use Rattle.decimal.proofs.Writing.{writes-then, writes-end}
 use Rattle.meaning.specs.Tree.{Bundle}
 use Rattle.meaning.specs.Encoding.{Bytes}
@@ -25,11 +29,15 @@ use Rattle.bundle.specs.declared.Answer as code
 use Rattle.bundle.specs.declared.Answer.the-variants.{Accepted, Refused}
 use Rattle.bundle.specs.Opened.{answerMeant}
 use Rattle.fixed_meaning.specs.Fixed.{sizing, placing}
+use Rattle.fixed_meaning.specs.Value as meaning
+use Rattle.values.specs.declared.Valued.{Valued}
+use Rattle.values.specs.declared.Valued.the-variants as value
+use Rattle.values.specs.Meant.{valueMeant}
 use Rattle.offsets.specs.declared.Fixed.{Fixed}
 use Rattle.offsets.specs.declared.Fixed.the-variants as fixed
 use Rattle.offsets.specs.declared.Fixed.the-variants.{Sized}
 use Rattle.offsets.specs.Placed.{answerMeant as fixedMeant, Extents, FixedCall}
-use Rattle.responses.specs.Response.{refusalBytes, written, responseTo, linesTo, numbersOf, linesOf, sizeTo, Holds}
+use Rattle.responses.specs.Response.{refusalBytes, written, responseTo, linesTo, numbersOf, linesOf, sizeTo, valueTo, Holds}
 
 -- what an acceptance leaves in the places
 module _ (o : Outcome) {before after : List ℕ} {a : Answer} {n : ℕ} (c : Call o before after a) (e : a ≡ accepted n) where
@@ -62,7 +70,7 @@ unfolding responseTo
 refuses o {out = out} {r = r} c e w = subst (λ a. Holds (written a o) out r) (sym e ∙ c .answer) w
 
 -- a report's room is a part of all the room
-module _ (out : List ℕ) (enough : 90154 ≤ length out) where
+module _ (out : List ℕ) (enough : 65536 ≤ length out) where
   pub report-room : length (take 65536 out) ≡ 65536
   report-room = length-take-le 65536 out (omega arith)
 
@@ -112,6 +120,20 @@ module _ {i lent : ℕ} {s before after : List ℕ} {f : Fixed} (c : FixedCall i
   unfolding sizeTo fixedMeant
   size-refuses {r = r} {out} e w =
       subst (λ a. Holds (linesOf a (numbersOf (sizing i s) ++ numbersOf (placing i s))) out r) (sym (ap fixedMeant e) ∙ c .call .answer ∙ ap (answerOf (placing i s)) room) w
+
+-- how long the line of a value is
+pub value-size : (z : ℤ) → SFits w64 z → length (signedLine (toZ w64 (ofZ w64 z))) ≤ 21
+value-size z f = rw (toZ-ofZ w64 z f) (signed-size z f)
+
+-- a value, as it is answered and written
+module _ {v : Valued} {due : meaning.Value} (c : valueMeant v ≡ due) where
+  pub values : {z : ℤ} {out out′ : List ℕ} {r : ℕ} → v ≡ value.Is z → SFits w64 z → Writes (signedLine (toZ w64 (ofZ w64 z))) out 0 out′ r → Holds (valueTo due) out′ r
+  unfolding valueTo valueMeant
+  values {z} e f w = record { within = w .room; first = w .places ∙ ap signedLine (toZ-ofZ w64 z f) ∙ ap valueTo (sym (ap valueMeant e) ∙ c) }
+
+  pub value-refuses : {k r : ℕ} {out : List ℕ} → v ≡ value.Refused k → Holds (refusalBytes k) out r → Holds (valueTo due) out r
+  unfolding valueTo valueMeant
+  value-refuses {r = r} {out} e w = subst (λ x. Holds (valueTo x) out r) (sym (ap valueMeant e) ∙ c) w
 
 -- a chain has at most 1,025 names
 chain-fits : (from to : ℕ) (s : List ℕ) → Bytes s → (names : List ℕ) → chaining from to s ≡ result names → length names ≤ 1025

@@ -3,12 +3,15 @@ use Prim.Native.Nat.{ℕ, _≤_}
 use mathlib.Core.List.{List, [], _∷_, _++_}
 use mathlib.Core.Path.{_≡_}
 use lib.ListN.{length, take}
-use Rattle.decimal.specs.Decimal.{lines}
+use Rattle.decimal.specs.Decimal.{lines, signedLine}
 use Rattle.meaning.specs.Calls.{Answer, accepted, refusedWith, Outcome, result, refusal, answerOf}
 use Rattle.meaning.specs.Due.{reporting, renumbering, chaining}
 use Rattle.fixed_meaning.specs.Fixed.{sizing, placing}
+use Rattle.fixed_meaning.specs.Value as meaning
+use Rattle.fixed_meaning.specs.Value.{valued, unvalued}
+use Rattle.fixed_meaning.specs.Valuing.{valuing}
 use Rattle.words.specs.declared.Order.{Order}
-use Rattle.words.specs.declared.Order.the-variants.{Report, Renumber, Chain, Size, Help, Wrong}
+use Rattle.words.specs.declared.Order.the-variants.{Report, Renumber, Chain, Size, Value, Help, Wrong}
 
 -- a refusal: 7E and its number
 abbrev pub refusalBytes : ℕ → List ℕ
@@ -43,12 +46,18 @@ linesOf (refusedWith k) numbers = refusalBytes k
 unfoldable pub sizeTo : Outcome → Outcome → ℕ → List ℕ
 sizeTo extent offsets lent = linesOf (answerOf offsets lent) (numbersOf extent ++ numbersOf offsets)
 
+-- a value in decimal, on a line, or the refusal
+unfoldable pub valueTo : meaning.Value → List ℕ
+valueTo (valued z) = signedLine z
+valueTo (unvalued k) = refusalBytes k
+
 -- what an order gets for a bundle: there are 65,536 places for a report or a renumbered bundle, and 8,192 for offsets
 abbrev pub answerTo : Order → List ℕ → List ℕ
 answerTo Report s = responseTo (reporting s) 65536
 answerTo Renumber s = responseTo (renumbering s) 65536
 answerTo (Chain from to) s = linesTo (chaining from to s)
 answerTo (Size definition) s = sizeTo (sizing definition s) (placing definition s) 8192
+answerTo (Value definition) s = valueTo (valuing definition s)
 answerTo Help s = []
 answerTo Wrong s = []
 

@@ -1,7 +1,8 @@
-// What the program writes to standard output for each order: a report, a renumbered bundle, a chain, or the size of a definition; for a
-// refused bundle 7E and the number of its refusal.
+// What the program writes to standard output for each order: a report, a renumbered bundle, a chain, the size of a definition, or the
+// value of an array's size; for a refused bundle 7E and the number of its refusal.
 use bundle::Answer;
 use offsets::Fixed;
+use values::Valued;
 use words::Order;
 ghost use mathlib.Core.List.{List};
 ghost use Prim.Native.Nat.{ℕ, _≤_};
@@ -9,8 +10,9 @@ ghost use lib.ListN.{length};
 ghost use Rattle.meaning.specs.Calls.{Outcome, Call};
 ghost use Rattle.meaning.specs.Due.{reporting, renumbering, chaining};
 ghost use Rattle.fixed_meaning.specs.Fixed.{sizing, placing};
+ghost use Rattle.fixed_meaning.specs.Valuing.{valuing};
 ghost use Rattle.bundle.specs.Opened.{answerMeant};
-ghost use Rattle.responses.specs.Response.{refusalBytes, responseTo, linesTo, sizeTo, answerTo, Holds};
+ghost use Rattle.responses.specs.Response.{refusalBytes, responseTo, linesTo, sizeTo, valueTo, answerTo, Holds};
 
 // Room for a report or a renumbered bundle: a longer one is refused with 9.
 const REPORT_ROOM: usize = 65536;
@@ -44,20 +46,22 @@ fn finish(answer: Answer, out: &mut [u8]) -> usize
 
 // The report.
 fn respond(bundle: &[u8], out: &mut [u8]) -> usize
-    requires { ⌜ 2 ≤ length (now out) ⌝ }
-    ensures { λ r. ⌜ Holds (responseTo (reporting (now (bundle .entry))) (length (now (out .entry)))) (now (out .exit)) r ⌝ }
+    requires { ⌜ 65536 ≤ length (now out) ⌝ }
+    ensures { λ r. ⌜ Holds (responseTo (reporting (now (bundle .entry))) 65536) (now (out .exit)) r ⌝ }
 {
-    let answer = report::report(bundle, out);
-    finish(answer, out)
+    let room = &mut out[..REPORT_ROOM];
+    let answer = report::report(bundle, room);
+    finish(answer, room)
 }
 
 // The bundle with its names renumbered.
 fn respond_renumbered(bundle: &[u8], out: &mut [u8]) -> usize
-    requires { ⌜ 2 ≤ length (now out) ⌝ }
-    ensures { λ r. ⌜ Holds (responseTo (renumbering (now (bundle .entry))) (length (now (out .entry)))) (now (out .exit)) r ⌝ }
+    requires { ⌜ 65536 ≤ length (now out) ⌝ }
+    ensures { λ r. ⌜ Holds (responseTo (renumbering (now (bundle .entry))) 65536) (now (out .exit)) r ⌝ }
 {
-    let answer = renumber::renumber(bundle, out);
-    finish(answer, out)
+    let room = &mut out[..REPORT_ROOM];
+    let answer = renumber::renumber(bundle, room);
+    finish(answer, room)
 }
 
 // The names of the chain, each to a line.
@@ -90,16 +94,29 @@ fn respond_size(bundle: &[u8], definition: u16, out: &mut [u8]) -> usize
     }
 }
 
+// The value of the size of a definition, on a line.
+fn respond_value(bundle: &[u8], definition: u16, out: &mut [u8]) -> usize
+    requires { ⌜ 21 ≤ length (now out) ⌝ }
+    ensures { λ r. ⌜ Holds (valueTo (valuing definition (now (bundle .entry)))) (now (out .exit)) r ⌝ }
+{
+    let value = size_value::size_value(bundle, definition as usize);
+    match value {
+        Valued::Is(n) => decimal::put_signed(out, 0, n),
+        Valued::Refused(k) => put_refusal(k, out),
+    }
+}
+
 // What an order gets for a bundle.
 pub fn answer(order: Order, bundle: &[u8], out: &mut [u8]) -> usize
     requires { ⌜ 90154 ≤ length (now out) ⌝ }
     ensures { λ r. ⌜ Holds (answerTo order (now (bundle .entry))) (now (out .exit)) r ⌝ }
 {
     match order {
-        Order::Report => respond(bundle, &mut out[..REPORT_ROOM]),
-        Order::Renumber => respond_renumbered(bundle, &mut out[..REPORT_ROOM]),
+        Order::Report => respond(bundle, out),
+        Order::Renumber => respond_renumbered(bundle, out),
         Order::Chain(from, to) => respond_chain(bundle, from, to, out),
         Order::Size(definition) => respond_size(bundle, definition, out),
+        Order::Value(definition) => respond_value(bundle, definition, out),
         Order::Help => 0,
         Order::Wrong => 0,
     }

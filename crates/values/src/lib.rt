@@ -108,7 +108,7 @@ fn subtract(l: i64, r: i64) -> Valued
 }
 
 // How far n is from 0.
-fn magnitude(n: i64) -> u64
+pub fn magnitude(n: i64) -> u64
     ensures { λ x. ⌜ x ≡ natAbs n ⌝ }
 {
     if 0 <= n {

@@ -17,6 +17,7 @@ readsBundle order.Report = true
 readsBundle order.Renumber = true
 readsBundle (order.Chain from to) = true
 readsBundle (order.Size definition) = true
+readsBundle (order.Value definition) = true
 readsBundle order.Help = false
 readsBundle order.Wrong = false
 
@@ -38,5 +39,6 @@ messageOf order.Report i written = failureOf i written
 messageOf order.Renumber i written = failureOf i written
 messageOf (order.Chain from to) i written = failureOf i written
 messageOf (order.Size definition) i written = failureOf i written
+messageOf (order.Value definition) i written = failureOf i written
 messageOf order.Help i written = failureOf i written
 messageOf order.Wrong i written = message.Arguments

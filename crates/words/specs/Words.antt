@@ -8,9 +8,9 @@ use Rattle.decimal.specs.Decimal.{Says}
 use Rattle.words.specs.declared.Word as word
 use Rattle.words.specs.declared.Word.the-variants as is
 use Rattle.words.specs.declared.Order.{Order}
-use Rattle.words.specs.declared.Order.the-variants.{Report, Renumber, Chain, Size, Help, Wrong}
+use Rattle.words.specs.declared.Order.the-variants.{Report, Renumber, Chain, Size, Value, Help, Wrong}
 
--- the words, in ASCII: renumber, chain, size, help, --help, -h
+-- the words, in ASCII: renumber, chain, size, value, help, --help, -h
 abbrev pub renumberWord : List ℕ
 renumberWord = 114 ∷ 101 ∷ 110 ∷ 117 ∷ 109 ∷ 98 ∷ 101 ∷ 114 ∷ []
 
@@ -19,6 +19,9 @@ chainWord = 99 ∷ 104 ∷ 97 ∷ 105 ∷ 110 ∷ []
 
 abbrev pub sizeWord : List ℕ
 sizeWord = 115 ∷ 105 ∷ 122 ∷ 101 ∷ []
+
+abbrev pub valueWord : List ℕ
+valueWord = 118 ∷ 97 ∷ 108 ∷ 117 ∷ 101 ∷ []
 
 abbrev pub helpWord : List ℕ
 helpWord = 104 ∷ 101 ∷ 108 ∷ 112 ∷ []
@@ -38,8 +41,9 @@ abbrev pub IsWord : List ℕ → word.Word → Type 0
 IsWord w is.Renumber = w ≡ renumberWord
 IsWord w is.Chain = w ≡ chainWord
 IsWord w is.Size = w ≡ sizeWord
+IsWord w is.Value = w ≡ valueWord
 IsWord w is.Help = IsHelp w
-IsWord w is.Other = (w ≡ renumberWord → ⊥) × (w ≡ chainWord → ⊥) × (w ≡ sizeWord → ⊥) × (IsHelp w → ⊥)
+IsWord w is.Other = (w ≡ renumberWord → ⊥) × (w ≡ chainWord → ⊥) × (w ≡ sizeWord → ⊥) × (w ≡ valueWord → ⊥) × (IsHelp w → ⊥)
 
 -- "chain" and two words that say names
 pub record AsksChain (words : List (List ℕ)) (from to : ℕ) : Type 0 where
@@ -49,10 +53,10 @@ pub record AsksChain (words : List (List ℕ)) (from to : ℕ) : Type 0 where
   pub says-from : Says first from
   pub says-to : Says last to
 
--- "size" and a word that says a number
-pub record AsksSize (words : List (List ℕ)) (definition : ℕ) : Type 0 where
+-- this word, and one that says a number
+pub record AsksNumber (word : List ℕ) (words : List (List ℕ)) (definition : ℕ) : Type 0 where
   pub number : List ℕ
-  pub all : words ≡ sizeWord ∷ number ∷ []
+  pub all : words ≡ word ∷ number ∷ []
   pub says : Says number definition
 
 -- one word for help and no other
@@ -67,14 +71,16 @@ pub record AsksNothing (words : List (List ℕ)) : Type 0 where
   pub renumber : words ≡ renumberWord ∷ [] → ⊥
   pub help : AsksHelp words → ⊥
   pub chain : (from to : ℕ) → AsksChain words from to → ⊥
-  pub size : (definition : ℕ) → AsksSize words definition → ⊥
+  pub size : (definition : ℕ) → AsksNumber sizeWord words definition → ⊥
+  pub value : (definition : ℕ) → AsksNumber valueWord words definition → ⊥
 
 -- the words ask for this
 abbrev pub Asks : List (List ℕ) → Order → Type 0
 Asks words Report = words ≡ []
 Asks words Renumber = words ≡ renumberWord ∷ []
 Asks words (Chain from to) = AsksChain words from to
-Asks words (Size definition) = AsksSize words definition
+Asks words (Size definition) = AsksNumber sizeWord words definition
+Asks words (Value definition) = AsksNumber valueWord words definition
 Asks words Help = AsksHelp words
 Asks words Wrong = AsksNothing words
 

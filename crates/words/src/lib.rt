@@ -12,6 +12,7 @@ enum Word {
     Renumber,
     Chain,
     Size,
+    Value,
     Help,
     Other,
 }
@@ -22,6 +23,7 @@ pub enum Order {
     Renumber,
     Chain(u16, u16),
     Size(u16),
+    Value(u16),
     Help,
     Wrong,
 }
@@ -38,6 +40,9 @@ fn word_of(word: &[u8]) -> Word
     }
     if check::same(word, b"size") {
         return Word::Size;
+    }
+    if check::same(word, b"value") {
+        return Word::Value;
     }
     if check::same(word, b"help") {
         return Word::Help;
@@ -59,6 +64,7 @@ fn alone(word: Word) -> Order
         Word::Renumber => Order::Renumber,
         Word::Chain => Order::Wrong,
         Word::Size => Order::Wrong,
+        Word::Value => Order::Wrong,
         Word::Help => Order::Help,
         Word::Other => Order::Wrong,
     }
@@ -68,13 +74,14 @@ fn alone(word: Word) -> Order
 fn ahead(word: Word, number: Parsed) -> Order
     ensures { λ r. ⌜ ((w x : List ℕ) → IsWord w word → IsParsed x number → Asks (w ∷ x ∷ []) r) ⌝ }
 {
-    let Word::Size = word else {
-        return Order::Wrong;
-    };
     let Parsed::Name(definition) = number else {
         return Order::Wrong;
     };
-    Order::Size(definition)
+    match word {
+        Word::Size => Order::Size(definition),
+        Word::Value => Order::Value(definition),
+        _ => Order::Wrong,
+    }
 }
 
 // What a word asks for with two others behind it.
@@ -146,6 +153,7 @@ pub fn reads_bundle(order: Order) -> bool
         Order::Renumber => true,
         Order::Chain(_, _) => true,
         Order::Size(_) => true,
+        Order::Value(_) => true,
         Order::Help => false,
         Order::Wrong => false,
     }

@@ -1,33 +1,18 @@
 use borrow.Author.Needs.{needs}
 use Rattle.responses.proofs.answer.Statement.{statement}
 use Rattle.responses.proofs.answer.Tie as tie
-use native.Mathlib.Omega.{arith}
-use mathlib.Core.Path.{sym}
-use Rattle.responses.proofs.Responding.{report-room, in-part}
 
 enum-told : tie.Need-enum-told
 enum-told c = search needs
 
-slice-relend-prefix-respond : tie.Need-slice-relend-prefix-respond
-slice-relend-prefix-respond c = search needs
-
-slice-aggregate-respond : tie.Need-slice-aggregate-respond
-slice-aggregate-respond c = sym (report-room (c .before .before .before .before .before .args .out .now) (c .before .before .before .before .before .pre))
-
 respond-requires : tie.Need-respond-requires
-respond-requires c κs = omega (arith, report-room (c .before .before .before .before .before .args .out .now) (c .before .before .before .before .before .pre))
+respond-requires c κs = search needs
 
 enum-told-2 : tie.Need-enum-told-2
 enum-told-2 c = search needs
 
-slice-relend-prefix-respond-renumbered : tie.Need-slice-relend-prefix-respond-renumbered
-slice-relend-prefix-respond-renumbered c = search needs
-
-slice-aggregate-respond-renumbered : tie.Need-slice-aggregate-respond-renumbered
-slice-aggregate-respond-renumbered c = sym (report-room (c .before .before .before .before .before .args .out .now) (c .before .before .before .before .before .pre))
-
 respond-renumbered-requires : tie.Need-respond-renumbered-requires
-respond-renumbered-requires c κs = omega (arith, report-room (c .before .before .before .before .before .args .out .now) (c .before .before .before .before .before .pre))
+respond-renumbered-requires c κs = search needs
 
 enum-known-order : tie.Need-enum-known-order
 enum-known-order c = search needs
@@ -41,6 +26,12 @@ enum-known-order-2 c = search needs
 respond-size-requires : tie.Need-respond-size-requires
 respond-size-requires c κs = search needs
 
+enum-known-order-3 : tie.Need-enum-known-order-3
+enum-known-order-3 c = search needs
+
+respond-value-requires : tie.Need-respond-value-requires
+respond-value-requires c κs = search needs
+
 enum-told-3 : tie.Need-enum-told-3
 enum-told-3 c = search needs
 
@@ -51,13 +42,13 @@ same-length : tie.Need-same-length
 same-length c = search needs
 
 returns : tie.Need-returns
-returns c = rw (c .before .before .before .before .enum-told .given .1) (in-part (c .before .before .before .before .before .before .before .before .args .out .now) (c .before .before .before .before .before .before .before .before .pre) _ _ (c .before .before .respond .ensures))
+returns c = rw (c .before .before .before .before .enum-told .given .1) (c .before .before .respond .ensures)
 
 same-length-2 : tie.Need-same-length-2
 same-length-2 c = search needs
 
 returns-2 : tie.Need-returns-2
-returns-2 c = rw (c .before .before .before .before .enum-told2 .given .1) (in-part (c .before .before .before .before .before .before .before .before .args .out .now) (c .before .before .before .before .before .before .before .before .pre) _ _ (c .before .before .respond-renumbered .ensures))
+returns-2 c = rw (c .before .before .before .before .enum-told2 .given .1) (c .before .before .respond-renumbered .ensures)
 
 same-length-3 : tie.Need-same-length-3
 same-length-3 c = search needs
@@ -71,28 +62,32 @@ same-length-4 c = search needs
 returns-4 : tie.Need-returns-4
 returns-4 c = rw (c .before .before .before .before .before .order2 .given .1) (c .before .before .respond-size .ensures)
 
+same-length-5 : tie.Need-same-length-5
+same-length-5 c = search needs
+
 returns-5 : tie.Need-returns-5
-returns-5 c = search needs
+returns-5 c = rw (c .before .before .before .before .before .order3 .given .1) (c .before .before .respond-value .ensures)
 
 returns-6 : tie.Need-returns-6
 returns-6 c = search needs
+
+returns-7 : tie.Need-returns-7
+returns-7 c = search needs
 
 pub answer-spec : {M : Type 1} → statement M
 answer-spec =
     tie.close
     (tie.spec
     enum-told
-    slice-relend-prefix-respond
-    slice-aggregate-respond
     respond-requires
     enum-told-2
-    slice-relend-prefix-respond-renumbered
-    slice-aggregate-respond-renumbered
     respond-renumbered-requires
     enum-known-order
     respond-chain-requires
     enum-known-order-2
     respond-size-requires
+    enum-known-order-3
+    respond-value-requires
     enum-told-3
     enum-told-4
     same-length
@@ -103,5 +98,7 @@ answer-spec =
     returns-3
     same-length-4
     returns-4
+    same-length-5
     returns-5
-    returns-6)
+    returns-6
+    returns-7)

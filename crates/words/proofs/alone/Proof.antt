@@ -3,7 +3,7 @@ use Rattle.words.proofs.alone.Statement.{statement}
 use Rattle.words.proofs.alone.Tie as tie
 use mathlib.Core.List.{[], _∷_}
 use mathlib.Core.Path.{refl, ap}
-use Rattle.words.proofs.Orders.{by-word, chain-alone, size-alone, wrong-alone}
+use Rattle.words.proofs.Orders.{by-word, chain-alone, size-alone, value-alone, wrong-alone}
 
 enum-told : tie.Need-enum-told
 enum-told c = search needs
@@ -20,6 +20,9 @@ enum-told-4 c = search needs
 enum-told-5 : tie.Need-enum-told-5
 enum-told-5 c = search needs
 
+enum-told-6 : tie.Need-enum-told-6
+enum-told-6 c = search needs
+
 returns : tie.Need-returns
 returns c = λ w h. ap (λ v. v ∷ []) (by-word w (c .enum-told .given .1) h)
 
@@ -30,10 +33,13 @@ returns-3 : tie.Need-returns-3
 returns-3 c = λ w h. size-alone w (by-word w (c .enum-told3 .given .1) h)
 
 returns-4 : tie.Need-returns-4
-returns-4 c = λ w h. record { word = w; all = refl; is-help = by-word w (c .enum-told4 .given .1) h }
+returns-4 c = λ w h. value-alone w (by-word w (c .enum-told4 .given .1) h)
 
 returns-5 : tie.Need-returns-5
-returns-5 c = λ w h. let other = by-word w (c .enum-told5 .given .1) h in wrong-alone w (other .0) (other .3)
+returns-5 c = λ w h. record { word = w; all = refl; is-help = by-word w (c .enum-told5 .given .1) h }
+
+returns-6 : tie.Need-returns-6
+returns-6 c = λ w h. let other = by-word w (c .enum-told6 .given .1) h in wrong-alone w (other .0) (other .4)
 
 pub alone-spec : {M : Type 1} → statement M
 alone-spec =
@@ -44,8 +50,10 @@ alone-spec =
     enum-told-3
     enum-told-4
     enum-told-5
+    enum-told-6
     returns
     returns-2
     returns-3
     returns-4
-    returns-5)
+    returns-5
+    returns-6)
