@@ -2,6 +2,7 @@
 
 use crate::encode::encode;
 use crate::tree::*;
+use crate::value::{value, Value};
 use layout::{FixedLayout, Refusal};
 use std::collections::HashMap;
 
@@ -10,6 +11,7 @@ pub struct Asked<'a> {
     bundle: &'a Bundle,
     bytes: &'a [u8],
     types: HashMap<&'a Type, FixedLayout>,
+    values: HashMap<&'a Array, Value<'a>>,
 }
 
 impl<'a> Asked<'a> {
@@ -18,6 +20,7 @@ impl<'a> Asked<'a> {
             bundle,
             bytes,
             types: HashMap::new(),
+            values: HashMap::new(),
         }
     }
 
@@ -25,8 +28,28 @@ impl<'a> Asked<'a> {
         layout::fixed_size_vec(self.bytes, place)
     }
 
-    /// The value of the size of an array that a definition is, or that stands inside it.
-    pub fn value(&self, place: usize, array: &Array) -> Result<Result<i64, Refusal>, String> {
+    /// The value of the size of an array that a definition is, or that stands inside it. The library and the
+    /// evaluation must agree on it.
+    pub fn value(&mut self, place: usize, array: &'a Array) -> Result<Value<'a>, String> {
+        if let Some(found) = self.values.get(array) {
+            return Ok(*found);
+        }
+        let answered = self.size_value(place, array)?;
+        let found = value(&array.size);
+        let own = found.map_err(|found| found.refusal());
+        if own != answered {
+            return Err(format!(
+                "definition {place}: the library answers {} for the size of an array, and the evaluation finds {}",
+                value_text(&answered),
+                value_text(&own)
+            ));
+        }
+        self.values.insert(array, found);
+        Ok(found)
+    }
+
+    /// What the library answers for it. An array inside a definition is asked for as a type inside it is.
+    fn size_value(&self, place: usize, array: &Array) -> Result<Result<i64, Refusal>, String> {
         if let Type::Array(own) = &self.bundle.definitions[place].body {
             if **own == *array {
                 return Ok(layout::size_value(self.bytes, place));
@@ -66,5 +89,12 @@ impl<'a> Asked<'a> {
             definitions: definitions.collect(),
             edges: self.bundle.edges.clone(),
         }
+    }
+}
+
+fn value_text(answer: &Result<i64, Refusal>) -> String {
+    match answer {
+        Ok(value) => format!("the value {value}"),
+        Err(refusal) => refusal.to_string(),
     }
 }

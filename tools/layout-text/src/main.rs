@@ -41,8 +41,8 @@ a number as #17, it is that definition alone. --svg draws that one.
 A text may have 4,194,304 bytes.
 Exit codes: 0 done, and for explain no violation; 1 violations; 2 a bundle that is
 refused, or a NAME without a fixed size; 3 a damaged text, a report that is not the
-bundle's, a NAME without a definition, a file that cannot be read or written, or a
-wrong command.
+bundle's, a NAME without a definition, a file that cannot be read or written, a
+library whose answers are not those that the program works out, or a wrong command.
 ";
 
 /// The end of each message about a wrong command.

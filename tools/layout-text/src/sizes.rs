@@ -10,7 +10,7 @@ use crate::picture::picture;
 use crate::show::expression;
 use crate::table::{table, Content, Row};
 use crate::tree::*;
-use crate::value::{count, value, Value};
+use crate::value::count;
 use crate::words::{self, counted};
 use layout::{FixedLayout, Refusal};
 
@@ -73,15 +73,16 @@ impl<'a> Sizes<'a> {
 
     /// Why a definition has no fixed size, and what is to be said of its own size besides.
     fn refused(
-        &self,
+        &mut self,
         place: usize,
         refusal: Refusal,
         obstacle: &Obstacle<'a>,
     ) -> Result<Answer, String> {
         // Where a size is in the way, the sentence has a number more, on which the library must agree too.
         let sized = self.sized_at(place, obstacle);
-        let agreed = sized.map(|(holder, array)| self.value(holder, array));
-        agreed.transpose()?;
+        if let Some((holder, array)) = sized {
+            let _agreed = self.asked.value(holder, array)?;
+        }
         let size = match sized.is_some() && obstacle.steps.is_empty() {
             true => String::new(),
             false => self.size_line(place)?,
@@ -107,27 +108,13 @@ impl<'a> Sizes<'a> {
         (!array.jagged).then_some((holder.unwrap_or(place), &**array))
     }
 
-    /// The value of the size of an array in a definition, on which the library and the evaluation agree.
-    fn value(&self, place: usize, array: &'a Array) -> Result<Value<'a>, String> {
-        let answered = self.asked.value(place, array)?;
-        let found = value(&array.size);
-        match found.map_err(|found| found.refusal()) {
-            own if own == answered => Ok(found),
-            own => Err(format!(
-                "definition {place}: the library answers {} for the size of an array, and the evaluation finds {}",
-                value_text(&answered),
-                value_text(&own)
-            )),
-        }
-    }
-
     /// A line on the size of a definition that is an array, if it is more than a literal or has no value.
-    fn size_line(&self, place: usize) -> Result<String, String> {
+    fn size_line(&mut self, place: usize) -> Result<String, String> {
         let Type::Array(array) = &self.bundle.definitions[place].body else {
             return Ok(String::new());
         };
         let (size, names) = (&array.size, &self.source.names);
-        Ok(match (self.value(place, array)?, size) {
+        Ok(match (self.asked.value(place, array)?, size) {
             (Ok(_), Expr::Literal(..)) => String::new(),
             (Ok(value), _) => format!("  Its size is `{}` = {value}.\n", expression(size, names)),
             (Err(found), _) => format!("  Its size {}.\n", no_value(size, &found, names)),
@@ -216,13 +203,13 @@ impl<'a> Sizes<'a> {
         let more = match plan.body {
             Type::Group(group) => group_text(group),
             Type::Array(array) => {
-                let count = self.value(shown, array)?.map_err(|found| {
+                let count = self.asked.value(shown, array)?.map_err(|found| {
                     let refusal = found.refusal();
                     format!("definition {shown} has a fixed size, and its size no value: {refusal}")
                 })?;
                 let each = self.asked.inside(shown, &array.element)?.size;
                 let elements = counted(count, "element");
-                let kind = type_text(&array.element, &self.source.names);
+                let kind = type_text(shown, &array.element, &mut self.asked, &self.source.names)?;
                 format!(
                     "; {elements} of type {kind}, {} each",
                     counted(each, "byte")
@@ -247,13 +234,6 @@ fn answer_text(answer: &Result<FixedLayout, layout::Refusal>) -> String {
     }
 }
 
-fn value_text(answer: &Result<i64, Refusal>) -> String {
-    match answer {
-        Ok(value) => format!("the value {value}"),
-        Err(refusal) => refusal.to_string(),
-    }
-}
-
 /// The attributes of a struct or union, and that it has no members.
 fn group_text(group: &Group) -> String {
     let Attributes { packed, aligned } = group.attributes;
@@ -272,21 +252,45 @@ fn group_text(group: &Group) -> String {
     out
 }
 
-/// A type in a few words, without its members. An array's own attributes count for nothing and are left out.
-pub fn type_text(node: &Type, names: &Names) -> String {
-    match node {
+/// A type inside a definition in a few words, without its members; the sizes of arrays with their values, where they are
+/// more than literals. An array's own attributes count for nothing and are left out.
+fn type_text<'a>(
+    place: usize,
+    node: &'a Type,
+    asked: &mut Asked<'a>,
+    names: &Names,
+) -> Result<String, String> {
+    Ok(match node {
         Type::Primitive(_) => words::type_word(node).to_string(),
         Type::TypeRef(name) => format!("ref {}", names.short(*name)),
         Type::Array(array) => {
-            let size = expression(&array.size, names);
-            format!("array [{size}] {}", type_text(&array.element, names))
+            let size = size_text(place, array, asked, names)?;
+            let element = type_text(place, &array.element, asked, names)?;
+            format!("array [{size}] {element}")
         }
         Type::Group(group) => {
             let word = words::group_word(group.kind);
             let attributes = group_text(group).replace(';', ",");
             format!("{word}{attributes}")
         }
+    })
+}
+
+/// The size of an array, with its value where it is more than a literal.
+fn size_text<'a>(
+    place: usize,
+    array: &'a Array,
+    asked: &mut Asked<'a>,
+    names: &Names,
+) -> Result<String, String> {
+    let size = expression(&array.size, names);
+    if let Expr::Literal(..) = array.size {
+        return Ok(size);
     }
+    Ok(match asked.value(place, array)? {
+        Ok(value) => format!("{size} = {value}"),
+        Err(_) => size,
+    })
 }
 
 /// The rows of a table, as they are collected from a definition.
@@ -341,7 +345,7 @@ impl<'a> Rows<'_, 'a> {
             if group.kind == GroupKind::Struct {
                 self.space(base, end, offset, level, Content::Gap)?;
             }
-            self.field(member, &part, base + offset, level, prefix);
+            self.field(member, &part, base + offset, level, prefix)?;
             self.inside(&member.member_type, base + offset, level + 1, "")?;
             end = end.max(offset + part.size);
         }
@@ -350,24 +354,26 @@ impl<'a> Rows<'_, 'a> {
 
     fn field(
         &mut self,
-        member: &Member,
+        member: &'a Member,
         part: &FixedLayout,
         offset: u64,
         level: usize,
         prefix: &str,
-    ) {
+    ) -> Result<(), String> {
         let point = if prefix.is_empty() { "" } else { "." };
         let name = self.names.short(member.name);
+        let type_text = type_text(self.place, &member.member_type, self.asked, self.names)?;
         self.rows.push(Row {
             level,
             offset,
             size: part.size,
             content: Content::Field {
                 name: format!("{prefix}{point}{name}"),
-                type_text: type_text(&member.member_type, self.names),
+                type_text,
                 alignment: part.alignment,
             },
         });
+        Ok(())
     }
 
     /// A row for the bytes from `end` to `start`, if there are any.

@@ -224,11 +224,19 @@ Definition 0 (line 1), array `a`: 24 bytes, alignment 2; 12 elements of type str
     let due = "\
 Definition 0 (line 1), struct `a`: 8 bytes, alignment 1
   offset  size  alignment  name  type
-       0     5          1  x     array [2u8 + 3u8] u8
-       5     3          1  y     array [(1u8 < 2u8) * 3u8] u8
+       0     5          1  x     array [2u8 + 3u8 = 5] u8
+       5     3          1  y     array [(1u8 < 2u8) * 3u8 = 3] u8
 ";
     let text = "define a struct { x: array [2u8 + 3u8] u8, y: array [(1u8 < 2u8) * 3u8] u8 }";
     assert_eq!(fixed(text), due);
+    // Arrays in arrays, each with the value of its own size.
+    let due = "\
+Definition 0 (line 1), array `a`: 12 bytes, alignment 1; 2 elements of type array [7u8 % 4u8 = 3] array [1u8 + 1u8 = 2] u8, 6 bytes each
+";
+    assert_eq!(
+        fixed("define a array [2u8] array [7u8 % 4u8] array [1u8 + 1u8] u8"),
+        due
+    );
     // Elements of a count of 0 are not shown.
     assert_eq!(
         fixed("define a array [3u8 - 3u8] struct { x: u8 }")
@@ -409,7 +417,7 @@ fn long_sizes_are_shown_from_their_start() {
     assert_eq!(shown, format!("Its size is `{}…` = 128.", &row(7)[..80]));
     let table = fixed(&format!("define a struct {{ x: array [{}] u8 }}", row(7)));
     assert!(
-        table.contains(&format!("array [{}…] u8", &row(7)[..80])),
+        table.contains(&format!("array [{}… = 128] u8", &row(7)[..80])),
         "{table}"
     );
     // A long name, once in the text and often in a size, by its number.
@@ -585,7 +593,7 @@ fn pictures_have_a_box_for_each_field_and_gap() {
     assert!(drawn.contains("fill=\"url(#hatch)\""));
     // A count that is worked out is drawn as the same literal is.
     let sum = picture("define a struct aligned 8 { x: u8, y: array [7u8 % 4u8] u32, z: u8 }");
-    assert_eq!(sum.replace("7u8 % 4u8", "3u16"), drawn);
+    assert_eq!(sum.replace("7u8 % 4u8 = 3", "3u16"), drawn);
     // Each member of a union in a row of its own.
     let drawn = picture("define a union { x: u8, y: u32, z: struct {} }");
     assert_eq!(check_picture(&drawn), 3);
