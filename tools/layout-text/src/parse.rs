@@ -422,7 +422,11 @@ impl<'a> Parser<'a> {
         if size > most || (negative && !signed) {
             let ending = words::word_of(&words::LITERALS, words::FIRST_LITERAL, kind);
             let minus = if negative { "-" } else { "" };
-            return self.error(format!("{minus}{size} is no {ending}"));
+            let hint = match negative && !signed {
+                true => format!("; with a sign it needs an ending with one, as `-{size}i64`"),
+                false => String::new(),
+            };
+            return self.error(format!("{minus}{size} is no {ending}{hint}"));
         }
         let value = match negative {
             true => size.wrapping_neg(),

@@ -114,6 +114,9 @@ fn faults_have_line_and_column() {
     let (line, column, message) = fault("define a array [a + b * c] u8");
     assert_eq!((line, column), (1, 23));
     assert!(message.contains("parentheses"), "{message}");
+    let (line, column, message) = fault("define a array [-4 * 3] u8");
+    assert_eq!((line, column), (1, 18));
+    assert!(message.contains("`-4i64`"), "{message}");
     assert_eq!(fault("define a struct {\n").0, 2);
     assert_eq!(fault("define a array [300u8] u8").1, 17);
     assert_eq!(fault("define a array [-1u8] u8").1, 18);
