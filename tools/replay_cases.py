@@ -16,7 +16,8 @@ complement, low byte first), or 7E and the refusal. The number goes in front of 
 is left out.
 
 crates/replay/stdin has for each case 0 for a report, 1 for a renumbering, 2 for a fixed size or 3 for a value, the lengths of bundle and
-answer (2 bytes each, low byte first) and both; crates/replay/stdout says that all are answered the same.
+answer (2 bytes each, low byte first) and both. Behind them come cases with a wrong answer, a result and a refusal of each call with one
+bit changed, and one of a call that there is not: crates/replay/stdout says how many are answered the same, and that these are not.
 """
 import os
 import subprocess
@@ -80,6 +81,16 @@ def files(words):
     return lists.values()
 
 
+def wrong(cases):
+    """A result and a refusal of each call with one bit changed, and a call that there is not."""
+    for call in range(4):
+        own = [case for case in cases if case[0] == call]
+        for refused in False, True:
+            bundle, answer = next(case[1:] for case in own if (len(case[2]) == 2) == refused)
+            yield call, bundle, answer[:-1] + bytes([answer[-1] ^ 1])
+    yield 4, cases[-1][1], cases[-1][2]
+
+
 def main():
     plain, fixed, values = files(sys.argv[1:])
     reports = [case for path in plain for case in load(path)] + [shared(0), shared(300)]
@@ -87,12 +98,13 @@ def main():
     cases += [(1, bundle, renumbered(bundle)) for bundle, _ in reports]
     cases += [(2, bundle, answer) for path in fixed for bundle, answer in numbered(path)]
     cases += [(3, bundle, answer) for path in values for bundle, answer in numbered(path)]
+    others = list(wrong(cases))
     folder = os.path.join(TOP, 'crates', 'replay')
     with open(os.path.join(folder, 'stdin'), 'wb') as out:
-        for call, bundle, answer in cases:
+        for call, bundle, answer in cases + others:
             out.write(number(call, 1) + number(len(bundle)) + number(len(answer)) + bundle + answer)
     with open(os.path.join(folder, 'stdout'), 'w') as out:
-        out.write(f'{len(cases)} answers the same, 0 others\n')
+        out.write(f'{len(cases)} answers the same, {len(others)} others\n')
 
 
 if __name__ == '__main__':

@@ -43,7 +43,7 @@ pub record Cases (s : List ℕ) : Type 0 where
 
 -- Every bundle that keeps the layout, with references that never circle, is accepted and its call gets the result; every other call is
 -- refused with the one number (`Number`, the refusals' Numbers.antt). None of these calls is refused with another
--- number than 1 to 9 (the call for fixed sizes: `FixedDemand`, crates/fixed_demand).
+-- number than 1 to 9 (the calls for fixed sizes and for values have demands of their own: crates/fixed_demand, crates/value_demand).
 -- `Result b xs`: xs is the result for the bundle b.
 pub record Demand1 (Result : Bundle → List ℕ → Type 0) (s before after : List ℕ) (a : Answer) : Type 0 where
   pub every : (b : Bundle) → Keeps s b → (xs : List ℕ) × Result b xs × Gets xs before after a

@@ -159,20 +159,36 @@ value-kept a k value e f = toZ-ofZ w64 value f ∙ rw e refl
 module _ (i : ℕ) (s : List ℕ) (bytes : Bytes s) (a : Valued) (c : valueMeant a ≡ valuing i s) (value out : ℤ) (r : ℕ) where
   -- what goes in and what goes out have come back from their bits
   pub value-in-c : SFits w64 value → SFits w64 out → r ≡ codeOfValue (valueMeant a) → out ≡ valueAfter (valueMeant a) (back value) → ValueInC i s value (back out) r
-  unfolding codeOfValue
+  unfolding codeOfValue valueAfter
   value-in-c f g e p =
       let code : r ≡ codeOfValue (valuing i s) = e ∙ ap codeOfValue c in
-      let o = numbered (valuing i s) refl code in
-      record { code = code; value-out = toZ-ofZ w64 out g ∙ p ∙ ap₂ valueAfter c (toZ-ofZ w64 value f); zero = o .0; known = o .1 }
+      decided (valuing i s) refl code (toZ-ofZ w64 out g ∙ p ∙ ap₂ valueAfter c (toZ-ofZ w64 value f))
     where
-      numbered : (v : Value) → valuing i s ≡ v → r ≡ codeOfValue v → ((r ≡ 0) ↔ ((z : ℤ) × (valuing i s ≡ valued z))) × ((r ≡ 0) ⊎ KnownNumber r)
-      numbered (valued z) q e = ((λ h. (z, q), λ h. e), inl e)
-      numbered (unvalued k) q e = let n = value-number i s k bytes q in ((λ h. absurd (over n (sym e ∙ h)), λ h. absurd (apart (sym q ∙ h .1))), inr (subst KnownNumber (sym e) n))
-        where
-          over : KnownNumber k → k ≡ 0 → ⊥
-          over (inl x) z = omega (arith, x .0)
-          over (inr (inl x)) z = omega arith
-          over (inr (inr x)) z = omega (arith, x .0)
+      over : {k : ℕ} → KnownNumber k → k ≡ 0 → ⊥
+      over (inl x) z = omega (arith, x .0)
+      over (inr (inl x)) z = omega arith
+      over (inr (inr x)) z = omega (arith, x .0)
 
-          apart : {z : ℤ} → unvalued k ≡ valued z → ⊥
-          apart e = let y : _≡_ {A = ℕ} 0 1 = cc in omega arith
+      apart : {k : ℕ} {z : ℤ} → unvalued k ≡ valued z → ⊥
+      apart e = let y : _≡_ {A = ℕ} 0 1 = cc in omega arith
+
+      decided : (v : Value) → valuing i s ≡ v → r ≡ codeOfValue (valuing i s) → back out ≡ valueAfter (valuing i s) value → ValueInC i s value (back out) r
+      decided (valued z) q e o =
+          let nil : r ≡ 0 = e ∙ ap codeOfValue q in
+          record {
+            code = e;
+            given = λ h. q ∙ ap valued (sym (o ∙ ap (λ v. valueAfter v value) q));
+            stay = λ h. absurd (omega (arith, nil));
+            zero = (λ h. (z, q), λ h. nil);
+            known = inl nil;
+          }
+      decided (unvalued k) q e o =
+          let n = value-number i s k bytes q in
+          let same : r ≡ k = e ∙ ap codeOfValue q in
+          record {
+            code = e;
+            given = λ h. absurd (over n (sym same ∙ h));
+            stay = λ h. o ∙ ap (λ v. valueAfter v value) q;
+            zero = (λ h. absurd (over n (sym same ∙ h)), λ h. absurd (apart (sym q ∙ h .1)));
+            known = inr (subst KnownNumber (sym same) n);
+          }

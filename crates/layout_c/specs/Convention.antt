@@ -73,9 +73,10 @@ valueAfter (valued z) value = z
 valueAfter (unvalued k) value = value
 
 -- The call for the value of the size of definition i of the bytes s returns r: 0 exactly where there is a value, which is then given, and
--- else one of the numbers 1 to 8, 11 and 13 to 15.
+-- else one of the numbers 1 to 8, 11 and 13 to 15, where the value stays.
 pub record ValueInC (i : ℕ) (s : List ℕ) (value value′ : ℤ) (r : ℕ) : Type 0 where
   pub code : r ≡ codeOfValue (valuing i s)
-  pub value-out : value′ ≡ valueAfter (valuing i s) value
+  pub given : r ≡ 0 → valuing i s ≡ valued value′
+  pub stay : 0 < r → value′ ≡ value
   pub zero : (r ≡ 0) ↔ ((z : ℤ) × (valuing i s ≡ valued z))
   pub known : (r ≡ 0) ⊎ KnownNumber r

@@ -8,7 +8,7 @@ use lib.ListN.{length, take}
 use lib.Seq.{length-take-le}
 use Rattle.bundle.specs.declared.Answer.{Answer}
 use Rattle.bundle.specs.declared.Answer.the-variants.{Accepted, Refused}
-use Rattle.stored.specs.Stored.{Whether, Stands, Due, Same, numberBytes, offsetBytes, layoutBytes, refusalBytes, IsDue}
+use Rattle.stored.specs.Stored.{Whether, BytesAt, Due, Same, numberBytes, offsetBytes, layoutBytes, refusalBytes, IsDue}
 use Rattle.stored.proofs.Standing.{whether-same, same-due, due-same}
 use Rattle.stored.proofs.Numbers.{length-number, length-layout, layout-stands, layout-offsets, due-stands, stands-due}
 
@@ -39,7 +39,7 @@ accepted-not a out due m n e other d =
     other (sym (h .1 .size ∙ length-take-le n out (h .0)))
 
 -- a number
-pub number-whether : (r : Bool) (due : List ℕ) (m w n k : ℕ) → m ≡ w → n ≡ k → Whether r (Stands due 0 (numberBytes w n)) → Whether r (Due due m (numberBytes w k))
+pub number-whether : (r : Bool) (due : List ℕ) (m w n k : ℕ) → m ≡ w → n ≡ k → Whether r (BytesAt due 0 (numberBytes w n)) → Whether r (Due due m (numberBytes w k))
 number-whether r due m w n k e q =
     rw (← q)
     (whether-same r (stands-due due m (numberBytes w n) (e ∙ sym (length-number w n))) (due-stands due m (numberBytes w n)))
@@ -49,8 +49,8 @@ module _ (size alignment : ℕ) (list : List ℕ) (count : ℕ) (due : List ℕ)
   pub layout-length : (count ≤ length list) × Due due m (layoutBytes size alignment (take count list)) → m ≡ 16 + 4 * count
   layout-length p = omega (arith, p .1 .size, length-layout size alignment (take count list) due, length-take-le count list (p .0))
 
-  pub layout-whether : (r : Bool) → m ≡ 16 + 4 * count → Stands due 0 (numberBytes 8 size) → Stands due 8 (numberBytes 8 alignment)
-      → Whether r ((count ≤ length list) × Stands due 16 (offsetBytes (take count list)))
+  pub layout-whether : (r : Bool) → m ≡ 16 + 4 * count → BytesAt due 0 (numberBytes 8 size) → BytesAt due 8 (numberBytes 8 alignment)
+      → Whether r ((count ≤ length list) × BytesAt due 16 (offsetBytes (take count list)))
       → Whether r ((count ≤ length list) × Due due m (layoutBytes size alignment (take count list)))
   layout-whether r e a b =
       whether-same r

@@ -10,7 +10,7 @@ use lib.Signed.{ltZ, nonNeg}
 use mir.Syntax.{w64}
 use mir.Val.{Fits, SFits, ofZ, toZ}
 use mir.ValLaws.{toZ-ofZ}
-use Rattle.stored.specs.Stored.{complement}
+use Rattle.stored.specs.Stored.{bitsOf}
 
 -- how far a negative number is below -1
 abbrev below : ℤ → ℕ
@@ -25,13 +25,13 @@ down : (v : ℤ) → ltZ v (pos 0) ≡ true → negsuc 0 -ℤ v ≡ pos (below v
 down (pos n) e = absurd (omega (arith, ltb-true n 0 e))
 down (negsuc n) e = rw (le-ltb (suc n) 1 (omega arith)) (ap pos (omega arith))
 
-negative : (v : ℤ) → ltZ v (pos 0) ≡ true → 18446744073709551615 - below v ≡ complement v
-unfolding complement
+negative : (v : ℤ) → ltZ v (pos 0) ≡ true → 18446744073709551615 - below v ≡ bitsOf v
+unfolding bitsOf
 negative (pos n) e = absurd (omega (arith, ltb-true n 0 e))
 negative (negsuc n) e = refl
 
-positive : (v : ℤ) → ltZ v (pos 0) ≡ false → v ≡ pos (complement v)
-unfolding complement
+positive : (v : ℤ) → ltZ v (pos 0) ≡ false → v ≡ pos (bitsOf v)
+unfolding bitsOf
 positive (pos n) e = refl
 positive (negsuc n) e = absurd (let z : _≡_ {A = ℕ} 0 1 = cc in omega arith)
 
@@ -59,20 +59,20 @@ module _ (v : ℤ) (fits : SFits w64 v) where
     pub under-less : natAbs (toZ w64 (ofZ w64 (negsuc 0 -ℤ toZ w64 (ofZ w64 v)))) ≤ 18446744073709551615
     under-less = subst (λ (z : ℤ). natAbs z ≤ 18446744073709551615) (sym back) (omega (arith, below-small v fits))
 
-    pub under-bits : 18446744073709551615 - natAbs (toZ w64 (ofZ w64 (negsuc 0 -ℤ toZ w64 (ofZ w64 v)))) ≡ complement v
+    pub under-bits : 18446744073709551615 - natAbs (toZ w64 (ofZ w64 (negsuc 0 -ℤ toZ w64 (ofZ w64 v)))) ≡ bitsOf v
     under-bits =
         ap (λ (z : ℤ). 18446744073709551615 - natAbs z) back ∙ negative v (subst (λ (z : ℤ). ltZ z (pos 0) ≡ true) kept e)
 
   module _ (e : ltZ (toZ w64 (ofZ w64 v)) (pos 0) ≡ false) where
-    plain : v ≡ pos (complement v)
+    plain : v ≡ pos (bitsOf v)
     plain = positive v (subst (λ (z : ℤ). ltZ z (pos 0) ≡ false) kept e)
 
-    plain-fits : SFits w64 (pos (complement v))
+    plain-fits : SFits w64 (pos (bitsOf v))
     plain-fits = subst (SFits w64) plain fits
 
     pub over-cast : T (nonNeg (toZ w64 (ofZ w64 v))) × Fits w64 (natAbs (toZ w64 (ofZ w64 v)))
     over-cast =
         subst (λ (z : ℤ). T (nonNeg z) × Fits w64 (natAbs z)) (sym (kept ∙ plain)) (tt, record { fits = omega (arith, plain-fits .sfits) })
 
-    pub over-bits : natAbs (toZ w64 (ofZ w64 v)) ≡ complement v
+    pub over-bits : natAbs (toZ w64 (ofZ w64 v)) ≡ bitsOf v
     over-bits = ap natAbs (kept ∙ plain)

@@ -8,7 +8,7 @@ use lib.ListN.{length, take, drop, getD, length-append, drop-of-length-le}
 use lib.Seq.{length-take-le, slice-cons}
 use Rattle.names.specs.Documents.{bytes}
 use Rattle.meaning.specs.Encoding.{numberItems}
-use Rattle.stored.specs.Stored.{Stands, Due, numberBytes, offsetBytes, layoutBytes}
+use Rattle.stored.specs.Stored.{BytesAt, Due, numberBytes, offsetBytes, layoutBytes}
 use Rattle.stored.proofs.Standing.{Leads, stands-join, stands-first, stands-rest, stands-within, stands-head, leads-start, leads-run, leads-byte, leads-end}
 
 -- ---- one number
@@ -28,7 +28,7 @@ number-none zero n h = refl
 number-none (suc w) n h = absurd (omega arith)
 
 module _ {s : List ℕ} {at : ℕ} {xs : List ℕ} {place : ℕ} (w n : ℕ) (l : Leads s at xs place (numberBytes w n)) where
-  pub number-end : w ≤ 0 → Stands s at xs
+  pub number-end : w ≤ 0 → BytesAt s at xs
   number-end h = leads-end (rw (number-none w n h) at l)
 
   module _ (more : 0 < w) where
@@ -38,10 +38,10 @@ module _ {s : List ℕ} {at : ℕ} {xs : List ℕ} {place : ℕ} (w n : ℕ) (l 
     pub number-byte : place < length s → getD s place 0 ≡ n % 256 → Leads s at xs (place + 1) (numberBytes (w - 1) (n / 256))
     number-byte h e = leads-byte ahead h e
 
-    pub number-past : length s ≤ place → Stands s at xs → ⊥
+    pub number-past : length s ≤ place → BytesAt s at xs → ⊥
     number-past h e = omega (arith, stands-within s place (n % 256 ∷ numberBytes (w - 1) (n / 256)) (ahead .there e) (omega arith))
 
-    pub number-other : (getD s place 0 ≡ n % 256 → ⊥) → Stands s at xs → ⊥
+    pub number-other : (getD s place 0 ≡ n % 256 → ⊥) → BytesAt s at xs → ⊥
     number-other other e = other (stands-head s place _ _ (ahead .there e))
 
 -- ---- offsets, one after another
@@ -63,23 +63,23 @@ module _ {list due : List ℕ} {count at i : ℕ} (p : Placing list due count at
   unfolding offsetBytes
   next-offset h = rw add-one (rw (slice-cons i count list 0 h fits) at (p .left))
 
-  pub placing-next : (x : ℕ) → i < count → x ≡ getD list i 0 → Stands due at (numberBytes 4 x) → Placing list due count (at + 4) (i + 1)
+  pub placing-next : (x : ℕ) → i < count → x ≡ getD list i 0 → BytesAt due at (numberBytes 4 x) → Placing list due count (at + 4) (i + 1)
   placing-next x h e stands =
       record {
         within = omega arith;
         left = rw (length-number 4 (getD list i 0)) at (leads-run at (numberBytes 4 (getD list i 0)) _ (next-offset h) (rw e at stands));
       }
 
-  pub placing-not : (x : ℕ) → i < count → x ≡ getD list i 0 → (Stands due at (numberBytes 4 x) → ⊥) → Stands due 16 (offsetBytes (take count list)) → ⊥
+  pub placing-not : (x : ℕ) → i < count → x ≡ getD list i 0 → (BytesAt due at (numberBytes 4 x) → ⊥) → BytesAt due 16 (offsetBytes (take count list)) → ⊥
   placing-not x h e other stands =
       other (rw e (stands-first due at (numberBytes 4 (getD list i 0)) _ (next-offset h .there stands)))
 
-  pub placing-end : count ≤ i → Stands due 16 (offsetBytes (take count list))
+  pub placing-end : count ≤ i → BytesAt due 16 (offsetBytes (take count list))
   unfolding offsetBytes
   placing-end h = leads-end (rw (drop-of-length-le (take count list) {i = i} (omega (arith, length-take-le count list fits))) at (p .left))
 
 -- the next place is a place too
-pub number-fits : (due : List ℕ) (at x : ℕ) → Stands due at (numberBytes 4 x) → at + 4 ≤ length due
+pub number-fits : (due : List ℕ) (at x : ℕ) → BytesAt due at (numberBytes 4 x) → at + 4 ≤ length due
 number-fits due at x e = omega (arith, stands-within due at (numberBytes 4 x) e (omega (arith, length-number 4 x)), length-number 4 x)
 
 -- ---- a layout
@@ -92,31 +92,31 @@ module _ (size alignment : ℕ) (offsets due : List ℕ) where
   length-layout =
       ap length parts ∙ simp length-append (omega (arith, length-number 8 size, length-number 8 alignment, length-offsets offsets))
 
-  pub layout-stands : Stands due 0 (numberBytes 8 size) → Stands due 8 (numberBytes 8 alignment) → Stands due 16 (offsetBytes offsets) → Stands due 0 (layoutBytes size alignment offsets)
+  pub layout-stands : BytesAt due 0 (numberBytes 8 size) → BytesAt due 8 (numberBytes 8 alignment) → BytesAt due 16 (offsetBytes offsets) → BytesAt due 0 (layoutBytes size alignment offsets)
   layout-stands a b c =
       rw parts
       (stands-join due 0 (numberBytes 8 size) (numberBytes 8 alignment ++ offsetBytes offsets) a
       (rw (length-number 8 size) (stands-join due 8 (numberBytes 8 alignment) (offsetBytes offsets) b (rw (length-number 8 alignment) c))))
 
-  module _ (e : Stands due 0 (layoutBytes size alignment offsets)) where
-    whole : Stands due 0 (numberBytes 8 size ++ (numberBytes 8 alignment ++ offsetBytes offsets))
+  module _ (e : BytesAt due 0 (layoutBytes size alignment offsets)) where
+    whole : BytesAt due 0 (numberBytes 8 size ++ (numberBytes 8 alignment ++ offsetBytes offsets))
     whole = rw parts at e
 
-    pub layout-size : Stands due 0 (numberBytes 8 size)
+    pub layout-size : BytesAt due 0 (numberBytes 8 size)
     layout-size = stands-first due 0 (numberBytes 8 size) (numberBytes 8 alignment ++ offsetBytes offsets) whole
 
-    behind : Stands due 8 (numberBytes 8 alignment ++ offsetBytes offsets)
+    behind : BytesAt due 8 (numberBytes 8 alignment ++ offsetBytes offsets)
     behind = rw (length-number 8 size) at (stands-rest due 0 (numberBytes 8 size) (numberBytes 8 alignment ++ offsetBytes offsets) whole)
 
-    pub layout-alignment : Stands due 8 (numberBytes 8 alignment)
+    pub layout-alignment : BytesAt due 8 (numberBytes 8 alignment)
     layout-alignment = stands-first due 8 (numberBytes 8 alignment) (offsetBytes offsets) behind
 
-    pub layout-offsets : Stands due 16 (offsetBytes offsets)
+    pub layout-offsets : BytesAt due 16 (offsetBytes offsets)
     layout-offsets = rw (length-number 8 alignment) at (stands-rest due 8 (numberBytes 8 alignment) (offsetBytes offsets) behind)
 
 -- ---- what is due
-pub due-stands : (due : List ℕ) (m : ℕ) (xs : List ℕ) → Due due m xs → Stands due 0 xs
+pub due-stands : (due : List ℕ) (m : ℕ) (xs : List ℕ) → Due due m xs → BytesAt due 0 xs
 due-stands due m xs d = rw (← d .size) (d .bytes)
 
-pub stands-due : (due : List ℕ) (m : ℕ) (xs : List ℕ) → m ≡ length xs → Stands due 0 xs → Due due m xs
+pub stands-due : (due : List ℕ) (m : ℕ) (xs : List ℕ) → m ≡ length xs → BytesAt due 0 xs → Due due m xs
 stands-due due m xs e stands = record { size = e; bytes = rw e stands }

@@ -7,7 +7,7 @@ use mathlib.Core.List.{List, [], _∷_, _++_}
 use mathlib.Core.Path.{_≡_, refl, sym, ap, ap₂, _∙_}
 use lib.ListN.{length, take, drop, getD, length-append, length-take, length-drop, drop-of-length-le}
 use lib.Seq.{take-add, take-take, take-append-seam, drop-append-seam, drop-drop, drop-cons, length-take-le, slice-cons}
-use Rattle.stored.specs.Stored.{Whether, Stands, Due, Same}
+use Rattle.stored.specs.Stored.{Whether, BytesAt, Due, Same}
 
 -- two questions with the same answer
 pub whether-same : (r : Bool) {P Q : Type 0} → (P → Q) → (Q → P) → Whether r P → Whether r Q
@@ -23,15 +23,15 @@ told-false true P e w p = let q : _≡_ {A = ℕ} 0 1 = cc in omega arith
 told-false false P e w p = w p
 
 -- bytes behind bytes
-pub stands-join : (s : List ℕ) (at : ℕ) (ys zs : List ℕ) → Stands s at ys → Stands s (at + length ys) zs → Stands s at (ys ++ zs)
+pub stands-join : (s : List ℕ) (at : ℕ) (ys zs : List ℕ) → BytesAt s at ys → BytesAt s (at + length ys) zs → BytesAt s at (ys ++ zs)
 stands-join s at ys zs p q = rw (length-append, take-add, drop-drop) (ap₂ _++_ p q)
 
-pub stands-first : (s : List ℕ) (at : ℕ) (ys zs : List ℕ) → Stands s at (ys ++ zs) → Stands s at ys
+pub stands-first : (s : List ℕ) (at : ℕ) (ys zs : List ℕ) → BytesAt s at (ys ++ zs) → BytesAt s at ys
 stands-first s at ys zs e =
     sym (take-take (length ys) (length (ys ++ zs)) (drop at s) (omega (arith, length-append ys zs)))
     ∙ ap (take (length ys)) e ∙ take-append-seam ys zs
 
-pub stands-rest : (s : List ℕ) (at : ℕ) (ys zs : List ℕ) → Stands s at (ys ++ zs) → Stands s (at + length ys) zs
+pub stands-rest : (s : List ℕ) (at : ℕ) (ys zs : List ℕ) → BytesAt s at (ys ++ zs) → BytesAt s (at + length ys) zs
 stands-rest s at ys zs e =
     let both : take (length ys) (drop at s) ++ take (length zs) (drop (at + length ys) s) ≡ ys ++ zs =
     rw (← drop-drop (length ys) at s, ← take-add (length ys) (length zs) (drop at s), ← length-append ys zs) e in
@@ -40,14 +40,14 @@ stands-rest s at ys zs e =
     sym (drop-append-seam ys (take (length zs) (drop (at + length ys) s))) ∙ ap (drop (length ys)) whole ∙ drop-append-seam ys zs
 
 -- one byte
-pub stands-byte : (s : List ℕ) (at x : ℕ) → at < length s → getD s at 0 ≡ x → Stands s at (x ∷ [])
+pub stands-byte : (s : List ℕ) (at x : ℕ) → at < length s → getD s at 0 ≡ x → BytesAt s at (x ∷ [])
 stands-byte s at x h e = rw (drop-cons s at 0 h) (ap (λ (k : ℕ). k ∷ []) e)
 
 -- the bytes are within the list
-pub stands-within : (s : List ℕ) (at : ℕ) (xs : List ℕ) → Stands s at xs → 0 < length xs → at + length xs ≤ length s
+pub stands-within : (s : List ℕ) (at : ℕ) (xs : List ℕ) → BytesAt s at xs → 0 < length xs → at + length xs ≤ length s
 stands-within s at xs e h = omega (arith, simp (length-take, length-drop) at (ap length e))
 
-pub stands-head : (s : List ℕ) (at x : ℕ) (xs : List ℕ) → Stands s at (x ∷ xs) → getD s at 0 ≡ x
+pub stands-head : (s : List ℕ) (at x : ℕ) (xs : List ℕ) → BytesAt s at (x ∷ xs) → getD s at 0 ≡ x
 stands-head s at x xs e =
     let h : at < length s = omega (arith, stands-within s at (x ∷ xs) e (omega arith)) in
     let q = rw (drop-cons s at 0 h) at e in
@@ -55,28 +55,28 @@ stands-head s at x xs e =
 
 -- the question whether xs stands at `at` is the question whether xs′ stands at at′
 pub record Leads (s : List ℕ) (at : ℕ) (xs : List ℕ) (at′ : ℕ) (xs′ : List ℕ) : Type 0 where
-  pub there : Stands s at xs → Stands s at′ xs′
-  pub back : Stands s at′ xs′ → Stands s at xs
+  pub there : BytesAt s at xs → BytesAt s at′ xs′
+  pub back : BytesAt s at′ xs′ → BytesAt s at xs
 
 pub leads-start : (s : List ℕ) (at : ℕ) (xs : List ℕ) → Leads s at xs at xs
 leads-start s at xs = record { there = λ e. e; back = λ e. e }
 
-pub leads-run : {s : List ℕ} {at : ℕ} {xs : List ℕ} (at′ : ℕ) (ys zs : List ℕ) → Leads s at xs at′ (ys ++ zs) → Stands s at′ ys → Leads s at xs (at′ + length ys) zs
+pub leads-run : {s : List ℕ} {at : ℕ} {xs : List ℕ} (at′ : ℕ) (ys zs : List ℕ) → Leads s at xs at′ (ys ++ zs) → BytesAt s at′ ys → Leads s at xs (at′ + length ys) zs
 leads-run {s} at′ ys zs l e =
     record { there = λ h. stands-rest s at′ ys zs (l .there h); back = λ h. l .back (stands-join s at′ ys zs e h) }
 
 pub leads-byte : {s : List ℕ} {at : ℕ} {xs : List ℕ} {at′ x : ℕ} {zs : List ℕ} → Leads s at xs at′ (x ∷ zs) → at′ < length s → getD s at′ 0 ≡ x → Leads s at xs (at′ + 1) zs
 leads-byte {s} {at} {xs} {at′} {x} {zs} l h e = leads-run at′ (x ∷ []) zs l (stands-byte s at′ x h e)
 
-pub leads-end : {s : List ℕ} {at : ℕ} {xs : List ℕ} {at′ : ℕ} → Leads s at xs at′ [] → Stands s at xs
+pub leads-end : {s : List ℕ} {at : ℕ} {xs : List ℕ} {at′ : ℕ} → Leads s at xs at′ [] → BytesAt s at xs
 leads-end l = l .back refl
 
 -- ---- the first n bytes of two lists
 module _ (a b : List ℕ) (n : ℕ) (first : n ≤ length a) where
-  pub same-stands : Same a b n → Stands b 0 (take n a)
+  pub same-stands : Same a b n → BytesAt b 0 (take n a)
   same-stands s = rw (length-take-le n a first) (sym (s .same))
 
-  pub stands-same : n ≤ length b → Stands b 0 (take n a) → Same a b n
+  pub stands-same : n ≤ length b → BytesAt b 0 (take n a) → Same a b n
   stands-same second e = record { first = first; second = second; same = sym (rw (length-take-le n a first) at e) }
 
   pub same-due : Same a b n → Due b n (take n a)

@@ -17,8 +17,8 @@ Whether true P = P
 Whether false P = P → ⊥
 
 -- the bytes xs stand at `at`
-abbrev pub Stands : List ℕ → ℕ → List ℕ → Type 0
-Stands s at xs = take (length xs) (drop at s) ≡ xs
+abbrev pub BytesAt : List ℕ → ℕ → List ℕ → Type 0
+BytesAt s at xs = take (length xs) (drop at s) ≡ xs
 
 -- the first m bytes are xs
 pub record Due (due : List ℕ) (m : ℕ) (xs : List ℕ) : Type 0 where
@@ -44,9 +44,9 @@ unfoldable pub layoutBytes : ℕ → ℕ → List ℕ → List ℕ
 layoutBytes size alignment offsets = numberBytes 8 size ++ numberBytes 8 alignment ++ offsetBytes offsets
 
 -- the number of 64 bits that stands for z: z, or 2^64 more where z is negative (`negsuc n` is -1 - n)
-unfoldable pub complement : ℤ → ℕ
-complement (pos n) = n
-complement (negsuc n) = 18446744073709551615 - n
+unfoldable pub bitsOf : ℤ → ℕ
+bitsOf (pos n) = n
+bitsOf (negsuc n) = 18446744073709551615 - n
 
 -- 7E and the number
 abbrev pub refusalBytes : ℕ → List ℕ

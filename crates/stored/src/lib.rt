@@ -4,7 +4,7 @@ ghost use mathlib.Core.Path.{_≡_};
 ghost use Prim.Native.Nat.{_≤_};
 ghost use lib.ListN.{length, take};
 ghost use Rattle.stored.specs.Examples.{Examples};
-ghost use Rattle.stored.specs.Stored.{Whether, Stands, Due, Same, numberBytes, offsetBytes, layoutBytes, complement, refusalBytes, IsDue};
+ghost use Rattle.stored.specs.Stored.{Whether, BytesAt, Due, Same, numberBytes, offsetBytes, layoutBytes, bitsOf, refusalBytes, IsDue};
 
 // Whether the first n bytes of both are the same.
 pub fn same_first(a: &[u8], b: &[u8], n: usize) -> bool
@@ -54,7 +54,7 @@ pub fn is_due(answer: Answer, out: &[u8], due: &[u8], m: usize) -> bool
 
 // Whether the `w` bytes at `at` are the number's, low byte first.
 pub fn number_is(due: &[u8], at: usize, w: usize, number: u64) -> bool
-    ensures { λ r. ⌜ Whether r (Stands (now (due .entry)) at (numberBytes w number)) ⌝ }
+    ensures { λ r. ⌜ Whether r (BytesAt (now (due .entry)) at (numberBytes w number)) ⌝ }
 {
     let mut rest = number;
     let mut place = at;
@@ -81,7 +81,7 @@ fn long(number: u32) -> u64
 
 // Whether the first `count` offsets are those behind the first 16 bytes.
 pub fn offsets_are(list: &[u32], count: usize, due: &[u8]) -> bool
-    ensures { λ r. ⌜ Whether r ((count ≤ length (now (list .entry))) × Stands (now (due .entry)) 16 (offsetBytes (take count (now (list .entry))))) ⌝ }
+    ensures { λ r. ⌜ Whether r ((count ≤ length (now (list .entry))) × BytesAt (now (due .entry)) 16 (offsetBytes (take count (now (list .entry))))) ⌝ }
 {
     if list.len() < count {
         return false;
@@ -129,7 +129,7 @@ pub fn layout_is(
 
 // The number that has the same 64 bits.
 fn bits_of(value: i64) -> u64
-    ensures { λ r. ⌜ r ≡ complement value ⌝ }
+    ensures { λ r. ⌜ r ≡ bitsOf value ⌝ }
 {
     if value < 0 {
         let below = (-1 - value) as u64;
@@ -140,7 +140,7 @@ fn bits_of(value: i64) -> u64
 
 // Whether the first m bytes are the value in eight bytes.
 pub fn value_is(value: i64, due: &[u8], m: usize) -> bool
-    ensures { λ r. ⌜ Whether r (Due (now (due .entry)) m (numberBytes 8 (complement value))) ⌝ }
+    ensures { λ r. ⌜ Whether r (Due (now (due .entry)) m (numberBytes 8 (bitsOf value))) ⌝ }
 {
     if m != 8 {
         return false;

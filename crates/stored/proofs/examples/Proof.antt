@@ -1,12 +1,12 @@
 -- `stored::examples` meets its contract: all of it computes.
 use mathlib.Core.Path.{refl}
 use Rattle.meaning.specs.Encoding.{numberItems}
-use Rattle.stored.specs.Stored.{numberBytes, offsetBytes, layoutBytes, complement}
+use Rattle.stored.specs.Stored.{numberBytes, offsetBytes, layoutBytes, bitsOf}
 use Rattle.stored.proofs.examples.Statement.{statement}
 use Rattle.stored.proofs.examples.Tie as tie
 
 returns : tie.Need-returns
-unfolding numberBytes offsetBytes layoutBytes complement numberItems
+unfolding numberBytes offsetBytes layoutBytes bitsOf numberItems
 returns c = record { low-first = refl; positive = refl; minus-one = refl; least = refl; layout = refl }
 
 pub examples-spec : {M : Type 1} → statement M
