@@ -27,7 +27,7 @@ fn report_with(
 {
     let mut kept = [0u8; bundle::DEFINITIONS];
     let mut nested = [0u8; bundle::DEFINITIONS];
-    chain::prepare(s, layout.edges_at, layout.edges, edges);
+    chain::prepare(s, layout.edges_at, layout.edges, 0, edges);
     draft::write_report(s, places, layout, &mut kept, &mut nested, edges, work, out)
 }
 
