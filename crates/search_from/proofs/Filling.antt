@@ -1,14 +1,16 @@
 -- The names on a chain written into a list from the back.
---     leads-inside                    what the places that are read hang on
+--     sizes                           what the places that are read and written hang on
 --     filling-start, -turn, -end      before the first name, one name more, and all of them
-use Prim.Native.Nat.{ℕ, zero, suc, _+_, _≤_, _<_}
+use Prim.Native.Nat.{ℕ, zero, suc, _+_, _-_, _*_, _≤_, _<_}
 use mathlib.Core.Path.{_≡_, refl, sym, ap, _∙_, subst}
 use mathlib.Core.List.{List, [], _∷_, _++_, map}
 use native.Mathlib.Omega.{arith}
 use native.Mathlib.Numerals.{add-one}
 use lib.ListN.{length, length-append, length-map, length-set, getD, List·getD-append, take, drop, set, take-append-drop}
 use lib.Seq.{length-take-le, take-length, take-suc, drop-at, drop-cons, append-snoc, set-at, take-take, take-at, getD-at, getD-take}
+use Rattle.chain.specs.Index.{namesIn, nameIn, Indexed}
 use Rattle.search_from.specs.Queue.{leading, Leads}
+use Rattle.search_from.specs.Work.{beforeIn}
 
 -- the places before k are those of c and the others those of f: one place more of f
 back : (c f : List ℕ) (k v : ℕ) → k < length c → k < length f → getD f k 0 ≡ v → set (take (k + 1) c ++ drop (k + 1) f) k v ≡ take k c ++ drop k f
@@ -41,6 +43,30 @@ pub record Filling (name before : ℕ → ℕ) (m x n : ℕ) (list₀ list : Lis
   pub part : (k j : ℕ) → n ≡ suc k → i ≡ suc j → take i (leading before k x) ≡ leading before j y
   pub held : (k : ℕ) → n ≡ suc k → list ≡ take i list₀ ++ drop i (map name (leading before k x) ++ drop n list₀)
   pub empty : n ≡ 0 → list ≡ list₀
+
+-- what the places that are read and written hang on, while the name of y is written
+pub record Sizes (count : ℕ) (edges work list : List ℕ) (y i : ℕ) : Type 0 where
+  pub few : count ≤ 1024
+  pub names : namesIn edges ≤ 2 * count
+  pub size : 9 * count + 257 ≤ length edges
+  pub room : 6 * count + 3 ≤ length work
+  pub inside : y < namesIn edges
+  pub fits : i ≤ length list
+  pub left : 0 < i
+
+pub sizes : {count : ℕ} (edges work : List ℕ) {list₀ list : List ℕ} {x n y i : ℕ} → Indexed count edges → 6 * count + 3 ≤ length work → n ≤ length list₀
+    → Filling (nameIn count edges) (beforeIn work) (namesIn edges) x n list₀ list y i → 0 < i → Sizes count edges work list y i
+sizes edges work {y = y} {i = i} s room fits f l =
+    let t : i ≡ suc (i - 1) = omega arith in
+    record {
+      few = s .few;
+      names = s .small;
+      size = s .size;
+      room = room;
+      inside = leads-inside (beforeIn work) (namesIn edges) (i - 1) y (f .leads (i - 1) t);
+      fits = omega (arith, f .within, f .size);
+      left = l;
+    }
 
 module _ (name before : ℕ → ℕ) (m x n : ℕ) (list₀ : List ℕ) (fits : n ≤ length list₀) where
   written-length : (k : ℕ) → n ≡ suc k → length (map name (leading before k x)) ≡ n
