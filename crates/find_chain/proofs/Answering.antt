@@ -2,12 +2,12 @@
 --     lists-prepared         over prepared edges
 --     zeros                  every place of a new list is 0
 --     called, turned-down    the call for an accepted bundle, and for bytes that are refused
-use Prim.Native.Nat.{ℕ, zero, suc, _≤_}
+use Prim.Native.Nat.{ℕ, zero, suc}
 use mathlib.Core.Path.{_≡_, refl, sym, ap, subst, _∙_}
 use mathlib.Core.Bool.{false}
 use mathlib.Core.List.{List, [], _∷_}
 use mathlib.Core.Option.{Option}
-use lib.ListN.{length, getD, replicate}
+use lib.ListN.{getD, replicate}
 use Rattle.meaning.specs.Tree.{Bundle}
 use Rattle.meaning.specs.Chain.{Graph, chainOf}
 use Rattle.meaning.specs.Circle.{circles}

@@ -1,5 +1,6 @@
 -- First walks from one start: each is one, they are ordered, and each but the empty one goes on from another by one edge.
 --     chained                the three kinds of chain
+--     walk-more              a walk and one edge more
 --     first-one              a name has one first walk
 --     last-first             a first walk without its last edge is the first walk to where that edge leads from
 --     sooner-total, sooner-trans, sooner-irrefl       the order of the reachable names
@@ -37,7 +38,7 @@ module _ (g : Graph) where
   walk-end a x y (e ∷ es) v w = walk-end (g .to e) x y es (v .2) (w .2)
 
   -- a walk and one edge more
-  walk-more : (a e : ℕ) (es : List ℕ) → IsWalk g a es (g .from e) → e < g .count → IsWalk g a (es ++ e ∷ []) (g .to e)
+  pub walk-more : (a e : ℕ) (es : List ℕ) → IsWalk g a es (g .from e) → e < g .count → IsWalk g a (es ++ e ∷ []) (g .to e)
   walk-more a e [] w l = (l, sym w, refl)
   walk-more a e (d ∷ es) w l = (w .0, w .1, walk-more (g .to d) e es (w .2) l)
 

@@ -39,15 +39,6 @@ before-last u {a} {b} p = earlier (length-snoc u a ∙ sym (length-snoc u b)) (e
 pub before-longer : (u v : List ℕ) (x : ℕ) → Before u (u ++ x ∷ v)
 before-longer u v x = fewer (omega (arith, length-append u (x ∷ v)))
 
--- nothing comes before the empty list, so what comes after it is longer
-pub before-nil : {u : List ℕ} → Before [] u → 0 < length u
-before-nil (fewer p) = p
-before-nil {u} (earlier l p) = go u p
-  where
-    go : (v : List ℕ) → Earlier [] v → 0 < length v
-    go [] t = absurd t
-    go (x ∷ v) t = omega arith
-
 earlier-total : (u v : List ℕ) → length u ≡ length v → (u ≡ v) ⊎ (Earlier u v ⊎ Earlier v u)
 earlier-total [] [] l = inl refl
 earlier-total [] (b ∷ v) l = inr (inl tt)

@@ -1,12 +1,12 @@
 -- The tests on walks say what the relations of the chain's meaning say.
 --     upTo-true, true-upTo       es is fs or comes before it
---     lastButOne-split           a list and its last element but one
+--     lastButOne-of              the last element but one of a list
 use Prim.Native.Nat.{ℕ, _<_}
 use mathlib.Core.Path.{_≡_, refl, ap, subst}
 use mathlib.Core.Logic.{_⊎_, inl, inr, ⊎-elim}
 use mathlib.Core.List.{List, [], _∷_, _++_}
 use mathlib.Core.Bool.{Bool, true, false, _&&_, _||_, false≢true}
-use mathlib.Core.Option.{some, Option·none-ne-some}
+use mathlib.Core.Option.{some}
 use native.Mathlib.Omega.{arith}
 use lib.Dec.{eqb, ltb}
 use lib.ListN.{length}
@@ -69,11 +69,3 @@ lastButOne-of (x ∷ y ∷ names) p last = go names (lastButOne-of (y ∷ names)
     go : (zs : List ℕ) → lastButOne (y ∷ zs ++ p ∷ last ∷ []) ≡ some p → lastButOne (x ∷ y ∷ zs ++ p ∷ last ∷ []) ≡ some p
     go [] h = h
     go (z ∷ zs) h = h
-
-pub lastButOne-split : (names : List ℕ) (p : ℕ) → lastButOne names ≡ some p → (ns : List ℕ) × (last : ℕ) × (names ≡ ns ++ p ∷ last ∷ [])
-lastButOne-split [] p h = absurd (Option·none-ne-some p h)
-lastButOne-split (x ∷ []) p h = absurd (Option·none-ne-some p h)
-lastButOne-split (x ∷ y ∷ []) p h = ([], y, cc)
-lastButOne-split (x ∷ y ∷ z ∷ zs) p h =
-    let r = lastButOne-split (y ∷ z ∷ zs) p h in
-    (x ∷ r .0, r .1, ap (x ∷_) (r .2))

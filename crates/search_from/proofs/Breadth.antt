@@ -5,7 +5,7 @@
 --     entry-first                     every entry has the first walk to its number
 --     entry-of                        the entries up to h are the numbers reached no later than that of h
 --     first-found, all-found, none-found   what the search finds
-use Prim.Native.Nat.{ℕ, zero, suc, _+_, _≤_, _<_}
+use Prim.Native.Nat.{ℕ, _+_, _≤_, _<_}
 use mathlib.Core.Path.{_≡_, refl, sym, ap, _∙_, subst}
 use mathlib.Core.Logic.{_⊎_, inl, inr, ⊎-elim, by-cases}
 use mathlib.Core.List.{List, [], _∷_, _++_, map, append-nil}
@@ -14,12 +14,12 @@ use native.Mathlib.Omega.{arith}
 use native.Mathlib.Decide.{decLt}
 use borrow.Author.Tests.{eq-eqb, ne-eqb}
 use lib.Dec.{eqb}
-use lib.ListN.{length}
 use lib.Seq.{append-snoc}
 use Rattle.meaning.specs.Chain.{Graph, IsWalk, Before, IsFirstWalk, namesOn}
 use Rattle.meaning.proofs.Order.{before-trans, before-irrefl}
 use Rattle.meaning.proofs.Walks.{order}
-use Rattle.followed.proofs.Order.{AtMost, before-snoc, before-last, before-longer, before-nil, before-atMost, atMost-trans, atMost-snoc, atMost-last}
+use Rattle.followed.proofs.Order.{AtMost, before-snoc, before-last, before-longer, before-atMost, atMost-trans, atMost-snoc, atMost-last}
+use Rattle.followed.proofs.FirstWalks.{walk-more}
 use Rattle.search_from.specs.Queue.{Passed, HasEntry, Queue}
 
 -- a function, changed at one place
@@ -59,13 +59,9 @@ names-snoc g a es e = ap (λ (l : List ℕ). a ∷ l) (go es)
     go [] = refl
     go (d ∷ ds) = ap (λ (l : List ℕ). g .to d ∷ l) (go ds)
 
-module _ (g : Graph) where
-  pub walk-both : (a b c : ℕ) (ds es : List ℕ) → IsWalk g a ds b → IsWalk g b es c → IsWalk g a (ds ++ es) c
-  walk-both a b c [] es w v = subst (λ (x : ℕ). IsWalk g x es c) (sym w) v
-  walk-both a b c (d ∷ ds) es w v = (w .0, w .1, walk-both (g .to d) b c ds es (w .2) v)
-
-  walk-snoc : (a b e : ℕ) (es : List ℕ) → IsWalk g a es b → e < g .count → g .from e ≡ b → IsWalk g a (es ++ e ∷ []) (g .to e)
-  walk-snoc a b e es w l s = walk-both a b (g .to e) es (e ∷ []) w (l, s, refl)
+-- a walk to an entry's number and one edge more
+walk-snoc : (g : Graph) (a b e : ℕ) (es : List ℕ) → IsWalk g a es b → e < g .count → g .from e ≡ b → IsWalk g a (es ++ e ∷ []) (g .to e)
+walk-snoc g a b e es w l s = walk-more g a e es (subst (λ (x : ℕ). IsWalk g a es x) (sym s) w) l
 
 module _ (g : Graph) (start : ℕ) (name : ℕ → ℕ) (path : ℕ → List ℕ) (n h e : ℕ) (q : Queue g start name path n h e) where
   -- some edge that is not yet followed, from an entry, gives a walk that is es or comes before es

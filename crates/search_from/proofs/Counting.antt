@@ -2,31 +2,31 @@
 --     followed-found      where it ends at an edge from entry h: the entries up to h
 --     followed-none       where no edge is left: all entries
 use Prim.Native.Nat.{ℕ, _+_, _≤_, _<_}
-use mathlib.Core.Path.{_≡_, refl, sym, ap, _∙_, subst}
+use mathlib.Core.Path.{_≡_, refl, sym, ap, ap₂, _∙_, subst}
 use mathlib.Core.Logic.{inr, by-cases}
 use mathlib.Core.List.{List, [], _∷_, _++_}
 use native.Mathlib.Omega.{arith}
 use native.Mathlib.Decide.{ℕ-discrete}
 use lib.ListN.{length, length-append}
-use Rattle.meaning.specs.Chain.{Graph, IsWalk, Before, IsFirstWalk}
+use Rattle.meaning.specs.Chain.{Graph, Before, IsFirstWalk}
 use Rattle.meaning.proofs.ChainLaws.{reaches-walk, walk-reaches}
 use Rattle.followed.specs.Followed.{followedCount}
-use Rattle.followed.specs.Laws.{Sooner, LastButOne, IsFollowed, without-chain, last-but-one, sooner}
-use Rattle.followed.proofs.FirstWalks.{walk-end, first-one}
+use Rattle.followed.specs.Laws.{LastButOne, IsFollowed, without-chain, last-but-one, sooner}
+use Rattle.followed.proofs.FirstWalks.{first-one}
 use Rattle.followed.proofs.Counting.{counted}
 use Rattle.search_from.specs.Queue.{Queue}
 use Rattle.search_from.proofs.Breadth.{entry-first, entry-of, first-found, all-found, none-found}
 
--- lists that are equal with one element more at the end
-snoc-same : (us vs : List ℕ) (a b : ℕ) → us ++ a ∷ [] ≡ vs ++ b ∷ [] → us ≡ vs
-snoc-same [] [] a b e = refl
+-- lists that are equal with one element more at the end, and that element
+snoc-same : (us vs : List ℕ) (a b : ℕ) → us ++ a ∷ [] ≡ vs ++ b ∷ [] → (us ≡ vs) × (a ≡ b)
+snoc-same [] [] a b e = (refl, cc)
 snoc-same [] (v ∷ vs) a b e = absurd (omega (arith, ap length e, length-append vs (b ∷ [])))
 snoc-same (u ∷ us) [] a b e = absurd (omega (arith, ap length e, length-append us (a ∷ [])))
 snoc-same (u ∷ us) (v ∷ vs) a b e =
-    let first : u ≡ v = cc in
     let rest : us ++ a ∷ [] ≡ vs ++ b ∷ [] = cc in
-    let same : us ≡ vs = snoc-same us vs a b rest in
-    cc
+    let same = snoc-same us vs a b rest in
+    let first : u ≡ v = cc in
+    (ap₂ _∷_ first (same .0), same .1)
 
 module _ (g : Graph) (start : ℕ) (name : ℕ → ℕ) (path : ℕ → List ℕ) (n h e : ℕ) (q : Queue g start name path n h e) where
   module _ (l : h < n) (m : e < g .count) (from : g .from e ≡ name h) (absent : (i : ℕ) → i < n → name i ≡ g .to e → ⊥) where
@@ -45,19 +45,7 @@ module _ (g : Graph) (start : ℕ) (name : ℕ → ℕ) (path : ℕ → List ℕ
 
         -- the last name but one of the chain is that of entry h
         here : (x : ℕ) → LastButOne g start (g .to e) x → name h ≡ x
-        here x o =
-            let same : o .edges ≡ path h = snoc-same (o .edges) (path h) (o .last) e (first-one g (o .chain) found) in
-            let edge : o .last ≡ e = last-same (o .edges) (path h) (o .last) e same (first-one g (o .chain) found) in
-            sym from ∙ ap (g .from) (sym edge) ∙ o .from
-          where
-            last-same : (us vs : List ℕ) (a b : ℕ) → us ≡ vs → us ++ a ∷ [] ≡ vs ++ b ∷ [] → a ≡ b
-            last-same [] [] a b p e = cc
-            last-same [] (v ∷ vs) a b p e = absurd (omega (arith, ap length p))
-            last-same (u ∷ us) [] a b p e = absurd (omega (arith, ap length p))
-            last-same (u ∷ us) (v ∷ vs) a b p e =
-                let same : us ≡ vs = cc in
-                let rest : us ++ a ∷ [] ≡ vs ++ b ∷ [] = cc in
-                last-same us vs a b same rest
+        here x o = sym from ∙ ap (g .from) (sym (snoc-same (o .edges) (path h) (o .last) e (first-one g (o .chain) found) .1)) ∙ o .from
 
         there : (x : ℕ) → IsFollowed g start (g .to e) x → (i : ℕ) × (i < h + 1) × (name i ≡ x)
         there x (without-chain no-chain p) = absurd (no-chain (walk-reaches g start (g .to e) (path h ++ e ∷ []) (found .walk)))

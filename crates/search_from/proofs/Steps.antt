@@ -5,14 +5,14 @@
 --     searching-skip, -next             on to another edge, and to the next entry
 --     searching-over, -gone             what the marks say where the search is over
 use Prim.Native.Nat.{ℕ, zero, suc, _+_, _≤_, _<_}
-use mathlib.Core.Path.{_≡_, refl, sym, ap, ap₂, _∙_, subst}
-use mathlib.Core.Logic.{_⊎_, ⊎-elim, by-cases}
-use mathlib.Core.List.{List, [], _∷_, _++_, map}
-use mathlib.Core.Option.{Option, none, some, Option·map}
+use mathlib.Core.Path.{_≡_, sym, ap, ap₂, _∙_, subst}
+use mathlib.Core.Logic.{⊎-elim, by-cases}
+use mathlib.Core.List.{List, [], _∷_, _++_}
+use mathlib.Core.Option.{Option, none, some}
 use native.Mathlib.Omega.{arith}
 use native.Mathlib.Decide.{ℕ-discrete}
 use lib.ListN.{length, length-append}
-use Rattle.meaning.specs.Chain.{Graph, IsWalk, namesOn, firstWalk, chainOf}
+use Rattle.meaning.specs.Chain.{Graph, IsWalk, namesOn, chainOf}
 use Rattle.meaning.proofs.ChainLaws.{firstWalk-is, firstWalk-no}
 use Rattle.meaning.proofs.Pigeonhole.{pigeonhole}
 use Rattle.followed.specs.Followed.{followedCount}

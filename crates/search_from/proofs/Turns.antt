@@ -11,7 +11,7 @@ use native.Mathlib.Omega.{arith}
 use lib.ListN.{length, length-set, getD, set}
 use lib.Seq.{getD-set-same, getD-set-other}
 use Rattle.chain.specs.Index.{namesIn, fromIn, toIn, linkIn, firstIn, numbered, NextTo, Indexed}
-use Rattle.search_from.specs.Queue.{Searching, Marked, Onward, on, over}
+use Rattle.search_from.specs.Queue.{Marked, Onward, on, over}
 use Rattle.search_from.specs.Work.{longIn, entryIn, beforeIn, onward, Exploring, Followed, Explored, Added, known, new}
 use Rattle.search_from.proofs.Steps.{searching-start, searching-few, searching-room, searching-push, searching-known, searching-skip, searching-next, searching-over, searching-gone}
 

@@ -1,6 +1,6 @@
 use Rattle.search_from.proofs.explore.Statement.{statement}
 use Rattle.search_from.proofs.explore.Tie as tie
-use Prim.Native.Nat.{ℕ, _+_, _-_, _*_}
+use Prim.Native.Nat.{_-_, _*_}
 use mathlib.Core.Path.{_≡_, refl, _∙_}
 use native.Mathlib.Omega.{arith}
 use lib.ListN.{length, length-set}

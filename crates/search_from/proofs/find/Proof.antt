@@ -1,10 +1,9 @@
 use borrow.Author.Needs.{needs}
 use Rattle.search_from.proofs.find.Statement.{statement}
 use Rattle.search_from.proofs.find.Tie as tie
-use mathlib.Core.Path.{_≡_, refl, sym, _∙_}
-use Prim.Native.Nat.{ℕ, _+_, _*_}
+use mathlib.Core.Path.{refl, sym}
+use Prim.Native.Nat.{_*_}
 use native.Mathlib.Omega.{arith}
-use lib.ListN.{length}
 use Rattle.search_from.proofs.Naming.{none-lone, count-lone}
 use Rattle.search_from.proofs.Answers.{listed, two-numbers, found-narrow, found-listed}
 

@@ -1,7 +1,7 @@
 use Rattle.search_from.proofs.follow.Statement.{statement}
 use Rattle.search_from.proofs.follow.Tie as tie
 use borrow.Author.Needs.{needs}
-use Prim.Native.Nat.{ℕ, _+_, _-_, _*_}
+use Prim.Native.Nat.{ℕ, _-_}
 use mathlib.Core.Path.{_≡_, refl, _∙_}
 use native.Mathlib.Omega.{arith}
 use lib.ListN.{length}
