@@ -1,5 +1,5 @@
 -- The names on a chain written into a list from the back.
---     sizes                           what the places that are read and written hang on
+--     fill-bounds                           what the places that are read and written hang on
 --     filling-start, -turn, -end      before the first name, one name more, and all of them
 use Prim.Native.Nat.{ℕ, zero, suc, _+_, _-_, _*_, _≤_, _<_}
 use mathlib.Core.Path.{_≡_, refl, sym, ap, _∙_, subst}
@@ -45,7 +45,7 @@ pub record Filling (name before : ℕ → ℕ) (m x n : ℕ) (list₀ list : Lis
   pub empty : n ≡ 0 → list ≡ list₀
 
 -- what the places that are read and written hang on, while the name of y is written
-pub record Sizes (count : ℕ) (edges work list : List ℕ) (y i : ℕ) : Type 0 where
+pub record FillBounds (count : ℕ) (edges work list : List ℕ) (y i : ℕ) : Type 0 where
   pub few : count ≤ 1024
   pub names : namesIn edges ≤ 2 * count
   pub size : 9 * count + 257 ≤ length edges
@@ -54,9 +54,9 @@ pub record Sizes (count : ℕ) (edges work list : List ℕ) (y i : ℕ) : Type 0
   pub fits : i ≤ length list
   pub left : 0 < i
 
-pub sizes : {count : ℕ} (edges work : List ℕ) {list₀ list : List ℕ} {x n y i : ℕ} → Indexed count edges → 6 * count + 3 ≤ length work → n ≤ length list₀
-    → Filling (nameIn count edges) (beforeIn work) (namesIn edges) x n list₀ list y i → 0 < i → Sizes count edges work list y i
-sizes edges work {y = y} {i = i} s room fits f l =
+pub fill-bounds : {count : ℕ} (edges work : List ℕ) {list₀ list : List ℕ} {x n y i : ℕ} → Indexed count edges → 6 * count + 3 ≤ length work → n ≤ length list₀
+    → Filling (nameIn count edges) (beforeIn work) (namesIn edges) x n list₀ list y i → 0 < i → FillBounds count edges work list y i
+fill-bounds edges work {y = y} {i = i} s room fits f l =
     let t : i ≡ suc (i - 1) = omega arith in
     record {
       few = s .few;

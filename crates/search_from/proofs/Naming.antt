@@ -23,7 +23,7 @@ use Rattle.chain.specs.Edges.{turned}
 use Rattle.chain.specs.Index.{namesIn, nameIn, fromIn, toIn, named, Indexed}
 use Rattle.chain.proofs.Named.{f, keeps, name-of, renamed-turned}
 use Rattle.search_from.specs.Queue.{leading, Leads}
-use Rattle.search_from.specs.Work.{onward}
+use Rattle.search_from.specs.Work.{unturned}
 
 module _ {count : ℕ} {edges : List ℕ} (s : Indexed count edges) (small : (i : ℕ) → getD edges i 0 < 65536) where
   abbrev names : Graph
@@ -53,38 +53,38 @@ module _ {count : ℕ} {edges : List ℕ} (s : Indexed count edges) (small : (i 
     end k = name-of s small y k ∙ q .here k
 
     -- no edge leads to a number that has no name
-    walk-inside : (z w : ℕ) (es : List ℕ) → z < namesIn edges → IsWalk (onward count edges) z es w → w < namesIn edges
+    walk-inside : (z w : ℕ) (es : List ℕ) → z < namesIn edges → IsWalk (unturned count edges) z es w → w < namesIn edges
     walk-inside z w [] k v = subst (λ (t : ℕ). t < namesIn edges) v k
     walk-inside z w (e ∷ es) k v = walk-inside (fromIn edges e) w es (s .froms e (v .0)) (v .2)
 
-    unreached : (y < namesIn edges → ⊥) → Reaches (onward count edges) x y → ⊥
-    unreached no-name r = let w = reaches-walk (onward count edges) r in no-name (walk-inside x y (w .0) l (w .1))
+    unreached : (y < namesIn edges → ⊥) → Reaches (unturned count edges) x y → ⊥
+    unreached no-name r = let w = reaches-walk (unturned count edges) r in no-name (walk-inside x y (w .0) l (w .1))
 
     no-chain : (y < namesIn edges → ⊥) → chainOf names a b ≡ none
     no-chain no-name = none-to names a b (no-to q (omega (arith, no-name))) ne
 
-    chain-of : y < namesIn edges → chainOf names a b ≡ Option·map (map (f s small)) (chainOf (onward count edges) x y)
-    chain-of k = ap₂ (chainOf names) (sym start) (sym (end k)) ∙ chainOf-map (f s small) (keeps s small) (onward count edges) names (renamed-turned s small) x y
+    chain-of : y < namesIn edges → chainOf names a b ≡ Option·map (map (f s small)) (chainOf (unturned count edges) x y)
+    chain-of k = ap₂ (chainOf names) (sym start) (sym (end k)) ∙ chainOf-map (f s small) (keeps s small) (unturned count edges) names (renamed-turned s small) x y
 
-    pub count-of : followedCount names a b ≡ followedCount (onward count edges) x y
+    pub count-of : followedCount names a b ≡ followedCount (unturned count edges) x y
     unfolding followedCount
     count-of =
         by-cases (decLt y (namesIn edges))
         (λ (k : y < namesIn edges).
-        ap₂ (followedCount names) (sym start) (sym (end k)) ∙ count-map (f s small) (keeps s small) (onward count edges) names (renamed-turned s small) x y)
+        ap₂ (followedCount names) (sym start) (sym (end k)) ∙ count-map (f s small) (keeps s small) (unturned count edges) names (renamed-turned s small) x y)
         (λ (k : ¬ (y < namesIn edges)).
         ap length
         (followed-all names a b (chain-none names a b .0 (no-chain k))
         ∙ ap (reachable names) (sym start)
-        ∙ reachable-map (f s small) (keeps s small) (onward count edges) names (renamed-turned s small) x)
-        ∙ length-map (reachable (onward count edges) x) (f s small)
-        ∙ ap length (sym (followed-all (onward count edges) x y (unreached k))))
+        ∙ reachable-map (f s small) (keeps s small) (unturned count edges) names (renamed-turned s small) x)
+        ∙ length-map (reachable (unturned count edges) x) (f s small)
+        ∙ ap length (sym (followed-all (unturned count edges) x y (unreached k))))
 
-    pub chain-none-of : chainOf (onward count edges) x y ≡ none → chainOf names a b ≡ none
+    pub chain-none-of : chainOf (unturned count edges) x y ≡ none → chainOf names a b ≡ none
     chain-none-of e =
         by-cases (decLt y (namesIn edges)) (λ (k : y < namesIn edges). chain-of k ∙ ap (Option·map (map (f s small))) e) (λ (k : ¬ (y < namesIn edges)). no-chain k)
 
-    pub chain-some-of : (before : ℕ → ℕ) (n : ℕ) → y < namesIn edges → Leads before (namesIn edges) n y → chainOf (onward count edges) x y ≡ some (leading before n y)
+    pub chain-some-of : (before : ℕ → ℕ) (n : ℕ) → y < namesIn edges → Leads before (namesIn edges) n y → chainOf (unturned count edges) x y ≡ some (leading before n y)
         → chainOf names a b ≡ some (map (nameIn count edges) (leading before n y))
     chain-some-of before n k leads e =
         chain-of k ∙ ap (Option·map (map (f s small))) e ∙ ap {B = Option (List ℕ)} some (leading-named before n y leads)

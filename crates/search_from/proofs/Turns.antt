@@ -2,7 +2,7 @@
 --     start                          the first entry
 --     follow-start, -turn, -end      the edges from an entry, one after another
 --     follow-found                   one that leads to the number that is looked for
---     sizes, entries-few, next-small, follow-room      what the places that are read and written hang on
+--     bounds, entries-few, next-small, follow-room      what the places that are read and written hang on
 --     explored                       no edge is left
 use Prim.Native.Nat.{ℕ, _+_, _*_, _≤_, _<_}
 use mathlib.Core.Path.{_≡_, refl, sym, ap, _∙_, subst}
@@ -12,7 +12,7 @@ use lib.ListN.{length, length-set, getD, set}
 use lib.Seq.{getD-set-same, getD-set-other}
 use Rattle.chain.specs.Index.{namesIn, fromIn, toIn, linkIn, firstIn, numbered, NextTo, Indexed}
 use Rattle.search_from.specs.Queue.{Marked, Onward, on, over}
-use Rattle.search_from.specs.Work.{longIn, entryIn, beforeIn, onward, Exploring, Followed, Explored, Added, known, new}
+use Rattle.search_from.specs.Work.{longIn, entryIn, beforeIn, unturned, Exploring, AfterEntry, Explored, Added, known, new}
 use Rattle.search_from.proofs.Steps.{searching-start, searching-few, searching-room, searching-push, searching-known, searching-skip, searching-next, searching-over, searching-gone}
 
 -- the three stores that make y entry n
@@ -53,7 +53,7 @@ pub record Following (count : ℕ) (edges : List ℕ) (a : ℕ) (work : List ℕ
   pub here : e < count → toIn edges e ≡ x
 
 -- what the places that are read and written hang on, while the edges from entry h are followed
-pub record Sizes (count : ℕ) (edges work : List ℕ) (n h : ℕ) : Type 0 where
+pub record Bounds (count : ℕ) (edges work : List ℕ) (n h : ℕ) : Type 0 where
   pub few : count ≤ 1024
   pub names : namesIn edges ≤ 2 * count
   pub size : 9 * count + 257 ≤ length edges
@@ -67,8 +67,8 @@ module _ {count : ℕ} {edges : List ℕ} (s : Indexed count edges) where
   pub entries-few : {a n h e : ℕ} {work : List ℕ} → Exploring count edges a work n h e → n ≤ namesIn edges
   entries-few q = searching-few (q .state)
 
-  pub sizes : {a n h e : ℕ} {work : List ℕ} → Exploring count edges a work n h e → h < n → Sizes count edges work n h
-  sizes {h = h} {work = work} q l =
+  pub bounds : {a n h e : ℕ} {work : List ℕ} → Exploring count edges a work n h e → h < n → Bounds count edges work n h
+  bounds {h = h} {work = work} q l =
       record {
         few = s .few;
         names = s .small;
@@ -131,7 +131,7 @@ module _ {count : ℕ} {edges : List ℕ} (s : Indexed count edges) where
           f .size
           ∙ ap (λ (k : ℕ). k + 1) (sym (marked .others x (λ p. omega (arith, ap (longIn work) p, ap (longIn work) (f .number), f .exploring .state .marked h (f .entry)))))
 
-      turned-over : Followed count edges a (fromIn edges e) after (n + 1) h
+      turned-over : AfterEntry count edges a (fromIn edges e) after (n + 1) h
       turned-over =
           let t = searching-over (f .exploring .state) marked (f .entry) (f .number) (f .size) l from refl fresh in
           record { after = over (t .0) (t .1); room = room }
@@ -142,10 +142,10 @@ module _ {count : ℕ} {edges : List ℕ} (s : Indexed count edges) where
           (omega (arith, f .entry)) (marked .old h (f .entry) ∙ f .number) size next
 
     module _ {to r : ℕ} {work′ : List ℕ} (unmarked : longIn work to ≡ 0) where
-      pub follow-found : fromIn edges e ≡ to → Added work n (fromIn edges e) x v work′ r → Followed count edges a to work′ r h
+      pub follow-found : fromIn edges e ≡ to → Added work n (fromIn edges e) x v work′ r → AfterEntry count edges a to work′ r h
       unfolding after
       follow-found is (known p q k) = absurd (omega (arith, ap (longIn work) is))
-      follow-found is (new p q k) = rw (q, k) (subst (λ (z : ℕ). Followed count edges a z after (n + 1) h) is (turned-over p))
+      follow-found is (new p q k) = rw (q, k) (subst (λ (z : ℕ). AfterEntry count edges a z after (n + 1) h) is (turned-over p))
 
       pub follow-turn : (fromIn edges e ≡ to → ⊥) → Added work n (fromIn edges e) x v work′ r
           → Following count edges a work′ r h x v (linkIn edges e) × (longIn work′ to ≡ 0)
@@ -155,7 +155,7 @@ module _ {count : ℕ} {edges : List ℕ} (s : Indexed count edges) where
           (skip (record { state = searching-known (f .exploring .state) (f .entry) p; room = f .exploring .room }) (f .entry) (f .number) (f .size) next, unmarked)
       follow-turn ne (new p q k) = rw (q, k) (one-more p, marked p .others to (λ z. ne (sym z)) ∙ unmarked)
 
-  pub follow-end : {a to n h x v e : ℕ} {work : List ℕ} → Following count edges a work n h x v e → count ≤ e → longIn work to ≡ 0 → Followed count edges a to work n h
+  pub follow-end : {a to n h x v e : ℕ} {work : List ℕ} → Following count edges a work n h x v e → count ≤ e → longIn work to ≡ 0 → AfterEntry count edges a to work n h
   follow-end f all fresh = record { after = on fresh (searching-next (f .exploring .state) (f .entry) all); room = f .exploring .room }
 
   pub start : (work : List ℕ) (a : ℕ) → a < namesIn edges → 6 * count + 3 ≤ length work → ((i : ℕ) → getD work i 0 ≡ 0)
@@ -180,16 +180,16 @@ module _ {count : ℕ} {edges : List ℕ} (s : Indexed count edges) where
   explored {to = to} q l fresh = record { over = searching-gone (q .state) l to fresh }
 
 -- what following the edges of an entry came to
-pub followed-on : {count : ℕ} {edges : List ℕ} {a to n h : ℕ} {work : List ℕ} → Followed count edges a to work n h → longIn work to ≡ 0 → Exploring count edges a work n (h + 1) 0
+pub followed-on : {count : ℕ} {edges : List ℕ} {a to n h : ℕ} {work : List ℕ} → AfterEntry count edges a to work n h → longIn work to ≡ 0 → Exploring count edges a work n (h + 1) 0
 followed-on {count} {edges} {a} {to} {n} {h} {work} f fresh = go (f .after)
   where
-    go : Onward (onward count edges) a to (namesIn edges) (longIn work) (entryIn work) (beforeIn work) n h → Exploring count edges a work n (h + 1) 0
+    go : Onward (unturned count edges) a to (namesIn edges) (longIn work) (entryIn work) (beforeIn work) n h → Exploring count edges a work n (h + 1) 0
     go (on p s) = record { state = s; room = f .room }
     go (over p o) = absurd (omega arith)
 
-pub followed-over : {count : ℕ} {edges : List ℕ} {a to n h : ℕ} {work : List ℕ} → Followed count edges a to work n h → (longIn work to ≡ 0 → ⊥) → Explored count edges a to work (h + 1)
+pub followed-over : {count : ℕ} {edges : List ℕ} {a to n h : ℕ} {work : List ℕ} → AfterEntry count edges a to work n h → (longIn work to ≡ 0 → ⊥) → Explored count edges a to work (h + 1)
 followed-over {count} {edges} {a} {to} {n} {h} {work} f marked = go (f .after)
   where
-    go : Onward (onward count edges) a to (namesIn edges) (longIn work) (entryIn work) (beforeIn work) n h → Explored count edges a to work (h + 1)
+    go : Onward (unturned count edges) a to (namesIn edges) (longIn work) (entryIn work) (beforeIn work) n h → Explored count edges a to work (h + 1)
     go (on p s) = absurd (marked p)
     go (over p o) = record { over = o }

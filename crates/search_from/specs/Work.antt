@@ -19,22 +19,22 @@ abbrev pub beforeIn : List ℕ → ℕ → ℕ
 beforeIn work x = getD work (3 * x + 2) 0
 
 -- the edges between numbers, which are prepared turned round
-abbrev pub onward : ℕ → List ℕ → Graph
-onward count edges = turned 1 (numbered count edges)
+abbrev pub unturned : ℕ → List ℕ → Graph
+unturned count edges = turned 1 (numbered count edges)
 
 -- a search from the number a with n entries in the slice, which has followed each edge before edge e from entry h
 pub record Exploring (count : ℕ) (edges : List ℕ) (a : ℕ) (work : List ℕ) (n h e : ℕ) : Type 0 where
-  pub state : Searching (onward count edges) a (namesIn edges) (longIn work) (entryIn work) (beforeIn work) n h e
+  pub state : Searching (unturned count edges) a (namesIn edges) (longIn work) (entryIn work) (beforeIn work) n h e
   pub room : 6 * count + 3 ≤ length work
 
 -- the edges of entry h are followed
-pub record Followed (count : ℕ) (edges : List ℕ) (a to : ℕ) (work : List ℕ) (n h : ℕ) : Type 0 where
-  pub after : Onward (onward count edges) a to (namesIn edges) (longIn work) (entryIn work) (beforeIn work) n h
+pub record AfterEntry (count : ℕ) (edges : List ℕ) (a to : ℕ) (work : List ℕ) (n h : ℕ) : Type 0 where
+  pub after : Onward (unturned count edges) a to (namesIn edges) (longIn work) (entryIn work) (beforeIn work) n h
   pub room : 6 * count + 3 ≤ length work
 
 -- the search from a to b is over, with the edges of k names followed
 pub record Explored (count : ℕ) (edges : List ℕ) (a b : ℕ) (work : List ℕ) (k : ℕ) : Type 0 where
-  pub over : Over (onward count edges) a b (namesIn edges) (longIn work) (beforeIn work) k
+  pub over : Over (unturned count edges) a b (namesIn edges) (longIn work) (beforeIn work) k
 
 -- y, with a chain of v names on which x stands before it, becomes entry n where it is not marked, and there are r entries then
 pub data Added (work : List ℕ) (n y x v : ℕ) (work′ : List ℕ) (r : ℕ) : Type 0 where

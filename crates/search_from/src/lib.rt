@@ -11,7 +11,7 @@ ghost use lib.ListN.{length, getD, drop};
 ghost use Rattle.chain.specs.Edges.{turned};
 ghost use Rattle.chain.specs.Index.{namesIn, nameIn, named, Indexed};
 ghost use Rattle.search_from.specs.Queue.{leading, Leads};
-ghost use Rattle.search_from.specs.Work.{longIn, beforeIn, Exploring, Followed, Explored, Added};
+ghost use Rattle.search_from.specs.Work.{longIn, beforeIn, Exploring, AfterEntry, Explored, Added};
 ghost use Rattle.search_from.specs.Listing.{Lists};
 
 // How many places are lent: for a search over few edges, and over as many as a bundle can have.
@@ -52,7 +52,7 @@ fn follow(
     work: &mut [u16],
 ) -> usize
     requires { ⌜ Indexed count (now edges) × (head < len) × (longIn (now work) to ≡ 0) × ((a : ℕ) × Exploring count (now edges) a (now work) len head 0) ⌝ }
-    ensures { λ r. ⌜ ((a : ℕ) → Exploring count (now (edges .entry)) a (now (work .entry)) len head 0 → Followed count (now (edges .entry)) a to (now (work .exit)) r head) ⌝ }
+    ensures { λ r. ⌜ ((a : ℕ) → Exploring count (now (edges .entry)) a (now (work .entry)) len head 0 → AfterEntry count (now (edges .entry)) a to (now (work .exit)) r head) ⌝ }
 {
     let x = work[3 * head + 1];
     let long = work[3 * x as usize] + 1;

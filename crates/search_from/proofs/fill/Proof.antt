@@ -6,7 +6,7 @@ use Prim.Native.Nat.{ℕ, _+_, _-_, _*_}
 use native.Mathlib.Omega.{arith}
 use Rattle.chain.specs.Index.{namesIn, nameIn}
 use Rattle.search_from.specs.Work.{beforeIn}
-use Rattle.search_from.proofs.Filling.{Filling, sizes, filling-start, filling-turn, filling-end}
+use Rattle.search_from.proofs.Filling.{Filling, fill-bounds, filling-start, filling-turn, filling-end}
 
 abbrev Inv-loop : tie.InvT-loop
 Inv-loop edges count x n work list₀ names y₀ i₀ list y i = Filling (nameIn count edges) (beforeIn work) (namesIn edges) x n list₀ list y i
@@ -30,34 +30,34 @@ sub-i : tie.Need-sub-i Inv-loop μ-loop
 sub-i c = search needs
 
 mul-list : tie.Need-mul-list Inv-loop μ-loop
-mul-list c = let p = c .before .before .pre .0 in let z = sizes (c .before .before .args .edges .now) (c .before .before .args .work .now) (p .0) (p .1) (p .2) (c .before .loop .inv) (c .loop-test .taken) in omega arith
+mul-list c = let p = c .before .before .pre .0 in let z = fill-bounds (c .before .before .args .edges .now) (c .before .before .args .work .now) (p .0) (p .1) (p .2) (c .before .loop .inv) (c .loop-test .taken) in omega arith
 
 add-list : tie.Need-add-list Inv-loop μ-loop
-add-list c = let p = c .before .before .pre .0 in let z = sizes (c .before .before .args .edges .now) (c .before .before .args .work .now) (p .0) (p .1) (p .2) (c .before .loop .inv) (c .loop-test .taken) in omega arith
+add-list c = let p = c .before .before .pre .0 in let z = fill-bounds (c .before .before .args .edges .now) (c .before .before .args .work .now) (p .0) (p .1) (p .2) (c .before .loop .inv) (c .loop-test .taken) in omega arith
 
 mul-list-2 : tie.Need-mul-list-2 Inv-loop μ-loop
-mul-list-2 c = let p = c .before .before .pre .0 in let z = sizes (c .before .before .args .edges .now) (c .before .before .args .work .now) (p .0) (p .1) (p .2) (c .before .loop .inv) (c .loop-test .taken) in omega arith
+mul-list-2 c = let p = c .before .before .pre .0 in let z = fill-bounds (c .before .before .args .edges .now) (c .before .before .args .work .now) (p .0) (p .1) (p .2) (c .before .loop .inv) (c .loop-test .taken) in omega arith
 
 shared-slice-read-list : tie.Need-shared-slice-read-list Inv-loop μ-loop
-shared-slice-read-list c = let p = c .before .before .before .pre .0 in let z = sizes (c .before .before .before .args .edges .now) (c .before .before .before .args .work .now) (p .0) (p .1) (p .2) (c .before .before .loop .inv) (c .before .loop-test .taken) in omega arith
+shared-slice-read-list c = let p = c .before .before .before .pre .0 in let z = fill-bounds (c .before .before .before .args .edges .now) (c .before .before .before .args .work .now) (p .0) (p .1) (p .2) (c .before .before .loop .inv) (c .before .loop-test .taken) in omega arith
 
 mul-list-3 : tie.Need-mul-list-3 Inv-loop μ-loop
-mul-list-3 c = let p = c .before .before .before .pre .0 in let z = sizes (c .before .before .before .args .edges .now) (c .before .before .before .args .work .now) (p .0) (p .1) (p .2) (c .before .before .loop .inv) (c .before .loop-test .taken) in omega arith
+mul-list-3 c = let p = c .before .before .before .pre .0 in let z = fill-bounds (c .before .before .before .args .edges .now) (c .before .before .before .args .work .now) (p .0) (p .1) (p .2) (c .before .before .loop .inv) (c .before .loop-test .taken) in omega arith
 
 slice-write-list : tie.Need-slice-write-list Inv-loop μ-loop
-slice-write-list c = let p = c .before .before .before .pre .0 in let z = sizes (c .before .before .before .args .edges .now) (c .before .before .before .args .work .now) (p .0) (p .1) (p .2) (c .before .before .loop .inv) (c .before .loop-test .taken) in omega arith
+slice-write-list c = let p = c .before .before .before .pre .0 in let z = fill-bounds (c .before .before .before .args .edges .now) (c .before .before .before .args .work .now) (p .0) (p .1) (p .2) (c .before .before .loop .inv) (c .before .loop-test .taken) in omega arith
 
 mul-y : tie.Need-mul-y Inv-loop μ-loop
-mul-y c = let p = c .before .before .before .pre .0 in let z = sizes (c .before .before .before .args .edges .now) (c .before .before .before .args .work .now) (p .0) (p .1) (p .2) (c .before .before .loop .inv) (c .before .loop-test .taken) in omega arith
+mul-y c = let p = c .before .before .before .pre .0 in let z = fill-bounds (c .before .before .before .args .edges .now) (c .before .before .before .args .work .now) (p .0) (p .1) (p .2) (c .before .before .loop .inv) (c .before .loop-test .taken) in omega arith
 
 add-y : tie.Need-add-y Inv-loop μ-loop
-add-y c = let p = c .before .before .before .pre .0 in let z = sizes (c .before .before .before .args .edges .now) (c .before .before .before .args .work .now) (p .0) (p .1) (p .2) (c .before .before .loop .inv) (c .before .loop-test .taken) in omega arith
+add-y c = let p = c .before .before .before .pre .0 in let z = fill-bounds (c .before .before .before .args .edges .now) (c .before .before .before .args .work .now) (p .0) (p .1) (p .2) (c .before .before .loop .inv) (c .before .loop-test .taken) in omega arith
 
 mul-y-2 : tie.Need-mul-y-2 Inv-loop μ-loop
-mul-y-2 c = let p = c .before .before .before .pre .0 in let z = sizes (c .before .before .before .args .edges .now) (c .before .before .before .args .work .now) (p .0) (p .1) (p .2) (c .before .before .loop .inv) (c .before .loop-test .taken) in omega arith
+mul-y-2 c = let p = c .before .before .before .pre .0 in let z = fill-bounds (c .before .before .before .args .edges .now) (c .before .before .before .args .work .now) (p .0) (p .1) (p .2) (c .before .before .loop .inv) (c .before .loop-test .taken) in omega arith
 
 shared-slice-read-y : tie.Need-shared-slice-read-y Inv-loop μ-loop
-shared-slice-read-y c = let p = c .before .before .before .before .pre .0 in let z = sizes (c .before .before .before .before .args .edges .now) (c .before .before .before .before .args .work .now) (p .0) (p .1) (p .2) (c .before .before .before .loop .inv) (c .before .before .loop-test .taken) in omega arith
+shared-slice-read-y c = let p = c .before .before .before .before .pre .0 in let z = fill-bounds (c .before .before .before .before .args .edges .now) (c .before .before .before .before .args .work .now) (p .0) (p .1) (p .2) (c .before .before .before .loop .inv) (c .before .before .loop-test .taken) in omega arith
 
 cast-y : tie.Need-cast-y Inv-loop μ-loop
 cast-y c = omega (arith, c .shared-slice-known2 .given (3 * c .before .before .before .loop .y + 2))
