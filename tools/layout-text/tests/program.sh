@@ -283,7 +283,80 @@ for size in '4u8 *' '4u8 * 300u8' '4 x 3' '4u8 * 3u8 + 1u8' ''; do
   wrong 'line 1, column ' sizes "$work/wrong.layout"
 done
 
-# The examples of sizes in README.md.
+# Chains: by words and numbers, from text and bytes, several ways of one length, none, a name to itself, and what is no name.
+cat > "$work/chain.layout" <<'CHAIN'
+name far = 700
+define a struct {}
+define d array [3u8] u8
+edge a -> b type
+edge a -> c type
+edge c -> d size
+edge b -> d tag
+edge d -> e type
+edge e -> a type
+edge z -> far type
+CHAIN
+"$tool" assemble "$work/chain.layout" > "$work/chain.bundle"
+expect 0 'a -> b -> d -> e' chain "$work/chain.layout" a e
+expect 0 'The search followed the edges of 4 names.' chain "$work/chain.layout" a e
+expect 0 'Edges lead from `a` to 4 other names.' chain "$work/chain.layout" a e
+expect 0 'The search followed the edges of 1 name.' chain "$work/chain.layout" a c
+expect 0 'a -> b -> d -> e' chain "$work/chain.bundle" a e --names "$work/chain.layout"
+expect 0 '#1 -> #3 -> #2 -> #5' chain "$work/chain.bundle" '#1' '#5'
+expect 0 'a -> b -> d -> e' chain "$work/chain.layout" '#1' '#0005'
+expect 0 'z -> far' chain "$work/chain.layout" z '#700'
+expect 0 'Edges lead from `z` to 1 other name.' chain "$work/chain.layout" z far
+expect 0 'No chain leads from `a` to `z`.' chain "$work/chain.layout" a z
+expect 0 'The search followed the edges of 5 names.' chain "$work/chain.layout" a z
+expect 0 'No chain leads from `#0` to `#65535`.' chain "$work/chain.layout" '#0' '#65535'
+expect 0 'No edge leads from `#0` to another name.' chain "$work/chain.layout" '#0' '#65535'
+expect 0 'The search followed no edges.' chain "$work/chain.layout" e e
+expect 0 'The search followed no edges.' chain "$work/chain.layout" '#9' '#9'
+cp "$work/chain.layout" "$work/input"
+expect 0 'a -> b -> d -> e' chain - a e
+expect 0 'a -> b -> d -> e' chain - a e --text
+expect 0 'a -> b -> d -> e' chain --names - "$work/chain.bundle" a e
+expect 2 'Refused: stranger (3)' chain - a e --bytes
+wrong '`nowhere` is no name' chain "$work/chain.layout" nowhere a
+wrong '`nowhere` is no name' chain "$work/chain.layout" a nowhere
+wrong '`` is no name' chain "$work/chain.layout" '' a
+wrong '`-` is no name' chain "$work/chain.layout" a -
+wrong '`1` is no name; write #17 for name 17' chain "$work/chain.layout" a 1
+for name in '#' '#65536' '#+1' '#x' '#1 ' '##1'; do
+  wrong "\`$name\` is no name; a number from 0 to 65535 is due behind the #" chain "$work/chain.layout" a "$name"
+done
+wrong '7777…` is no name' chain "$work/chain.layout" a "$(printf '%0999d' 0 | tr 0 7)"
+wrong 'no words are known for its names: write #17 for name 17, or give --names' chain "$work/chain.bundle" a e
+wrong '`chain` needs FILE, FROM and TO' chain
+wrong '`chain` needs FILE, FROM and TO' chain "$work/chain.layout"
+wrong '`chain` needs FILE, FROM and TO' chain "$work/chain.layout" a
+wrong '`more` is one argument too many' chain "$work/chain.layout" a b more
+wrong 'wrong argument `-o`' chain "$work/chain.layout" a b -o "$work/words"
+wrong 'wrong argument `--svg`' chain "$work/chain.layout" a b --svg
+wrong '`--text` is given twice' chain "$work/chain.layout" a b --text --text
+wrong '`--text` and `--bytes` are both given' chain "$work/chain.layout" a b --text --bytes
+wrong '`--names` needs a file' chain "$work/chain.layout" a b --names
+wrong 'standard input is asked for twice' chain - a b --names -
+wrong 'cannot be read: No such file' chain "$work/none" a b
+expect 0 'layout-text chain' chain --help
+expect 2 'Refused: circle (8)' chain samples/refused-circle.layout winch_frame nowhere
+expect 2 'Reading stopped at byte' chain samples/refused-buried.layout a b
+head -c 30 "$work/chain.bundle" > "$work/cut"
+expect 2 'Refused: short (2)' chain "$work/cut" '#1' '#2'
+: > "$work/cut"
+expect 2 'Refused: short (2)' chain "$work/cut" '#1' '#2'
+head -c 32769 /dev/zero > "$work/cut"
+expect 2 'Refused: overlong (1)' chain "$work/cut" '#1' '#2'
+printf 'edge a -> b' > "$work/wrong.layout"
+wrong 'line 1, column ' chain "$work/wrong.layout" a b
+
+# The examples of chains and of sizes in README.md.
+rm -f "$work"/example-*
+awk -v work="$work" '
+  sub(/^    \$ layout-text chain /, "") { file = work "/example-chain"; print > (file ".words"); next }
+  /^$/ { file = "" }
+  file { print substr($0, 5) > file }' tools/layout-text/README.md
+"$tool" chain $(cat "$work/example-chain.words") 2>&1 | cmp -s - "$work/example-chain" || fail 'the example of a chain in README.md'
 rm -f "$work"/example-*
 awk -v work="$work" '
   sub(/^    \$ layout-text sizes /, "") { file = work "/example-" ++n; print > (file ".words"); next }
@@ -413,6 +486,8 @@ for place in /dev/full closed; do
   lost $place "$full" sizes "$work/bundle"
   lost $place "$full" sizes "$work/sizes.layout" cell
   lost $place "$full" sizes "$work/sizes.layout" cell --svg
+  lost $place "$full" chain "$work/chain.layout" a c
+  lost $place "$full" chain samples/refused-circle.layout a b
 done
 expect 3 '/dev/full: cannot be written: No space left on device' assemble -o /dev/full
 expect 3 '/dev/full: cannot be written: No space left on device' show "$work/bundle" -o /dev/full
@@ -439,6 +514,10 @@ pub unsafe extern "C" fn layout_report() -> u8 {
     abort()
 }
 #[no_mangle]
+pub unsafe extern "C" fn layout_chain_followed() -> u8 {
+    abort()
+}
+#[no_mangle]
 pub unsafe extern "C" fn layout_fixed_size() -> u8 {
     abort()
 }
@@ -461,17 +540,18 @@ for sample in winch type-1-enum-forward refused-circle; do
 done
 (ulimit -c 0; "$work/mute" explain samples/winch.layout; echo $? > "$work/code") > "$work/words" 2>&1
 [ "$(cat "$work/code")" -ge 128 ] || fail 'the library without answers was not linked'
-# other FIXED VALUE: the program over a library that accepts every set, and answers so to every other call.
+# other FIXED VALUE CHAIN: the program over a library that accepts every set, and answers so to every other call.
 other() {
   sed "s/layout_accept() -> u8 {/layout_accept() -> u8 { return 0;/
     s/layout_fixed_size() -> u8 {/layout_fixed_size() -> u8 { return $1;/
-    s/layout_size_value() -> u8 {/layout_size_value() -> u8 { return $2;/" "$work/mute.rs" > "$work/other.rs"
+    s/layout_size_value() -> u8 {/layout_size_value() -> u8 { return $2;/
+    s/layout_chain_followed() -> u8 {/layout_chain_followed() -> u8 { return $3;/" "$work/mute.rs" > "$work/other.rs"
   rustc --edition 2021 -A unreachable_code -C panic=abort --crate-type lib --emit obj -o "$work/other.o" "$work/other.rs" &&
     rustc --edition 2021 -L "$target" --extern layout --extern layout_text -C "link-arg=$work/other.o" -o "$work/other" \
       tools/layout-text/src/main.rs || fail 'the program over a library with other answers was not built'
 }
 # A library that answers otherwise than the evaluation of a size: no number of it is told.
-other 11 13
+other 11 13 9
 for name in samples frame; do
   "$work/other" sizes "$work/sizes.layout" $name > "$work/words" 2> "$work/printed"
   [ $? -eq 3 ] && [ ! -s "$work/words" ] && grep -q \
@@ -482,8 +562,15 @@ done
 [ $? -eq 3 ] && [ ! -s "$work/words" ] && grep -q 'and the evaluation finds the value -2$' "$work/printed" ||
   fail 'a value that the library refuses is told'
 "$work/other" sizes "$work/sums.layout" divided | grep -q 'zero divisor (13)' || fail 'a number on which both agree is not told'
+# A library that accepts a set and refuses a search in it: nothing of it is told.
+"$work/other" chain "$work/chain.layout" a c > "$work/words" 2> "$work/printed"
+[ $? -eq 3 ] && [ ! -s "$work/words" ] && grep -q 'accepts the bundle and refuses a search in it: narrow (9)' "$work/printed" ||
+  fail 'a search that is refused in an accepted set is told'
 # A library that answers otherwise than the walk over the set: no number of it is told.
-other 12 13
+other 12 13 0
+"$work/other" chain "$work/chain.layout" a c > "$work/words" 2> "$work/printed"
+[ $? -eq 3 ] && [ ! -s "$work/words" ] && grep -q "the library's answers about #1 to #4 and to #0, which no edge has, do not agree" \
+  "$work/printed" || fail 'a search whose count is 0 for all names is told'
 for name in cell frame; do
   "$work/other" sizes "$work/sizes.layout" $name > "$work/words" 2> "$work/printed"
   [ $? -eq 3 ] && [ ! -s "$work/words" ] && grep -q 'the library answers oversized (12)' "$work/printed" ||
@@ -530,7 +617,7 @@ script() {
   done
 }
 script tools/layout-text/build.sh 1
-script tools/layout-text/test.sh 3
+script tools/layout-text/test.sh 4
 script samples/check.sh 1
 script bindings/rust/test.sh 1
 for due in "$copy/my library.a" -no-pie -lm; do
