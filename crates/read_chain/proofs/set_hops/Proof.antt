@@ -1,13 +1,13 @@
--- `search::set_hops` meets its contract. The invariant: the edges from e on have given their hops.
-use Rattle.search.proofs.set_hops.Statement.{statement}
-use Rattle.search.proofs.set_hops.Tie as tie
+-- `read_chain::set_hops` meets its contract. The invariant: the edges from e on have given their hops.
+use Rattle.read_chain.proofs.set_hops.Statement.{statement}
+use Rattle.read_chain.proofs.set_hops.Tie as tie
 use borrow.Author.Needs.{needs}
 use Prim.Native.Nat.{ℕ, _-_, _≤_}
 use mathlib.Core.Path.{subst}
 use native.Mathlib.Omega.{arith}
 use Rattle.chain.specs.Index.{toIn}
 use Rattle.search.specs.Work.{Hopped}
-use Rattle.search.proofs.Turns.{hop-start, hopped, unhopped}
+use Rattle.search.proofs.Turns.{hopped-far, hop-start, hopped, unhopped}
 
 abbrev Inv-loop : tie.InvT-loop
 Inv-loop edges count work₀ e₀ work e = (e ≤ count) × Hopped count edges work₀ e work
@@ -76,7 +76,7 @@ slice-read-if1-2 : tie.Need-slice-read-if1-2 Inv-loop μ-loop
 slice-read-if1-2 c = omega (arith, c .before .before .before .before .before .before .pre .0 .0 .froms (c .before .before .before .before .before .loop .e - 1) (omega arith), c .before .before .before .before .before .before .pre .0 .0 .tos (c .before .before .before .before .before .loop .e - 1) (omega arith), c .before .before .before .before .before .before .pre .0 .0 .small, c .before .before .before .before .before .before .pre .0 .0 .few, c .before .before .before .before .before .before .pre .0 .0 .size, c .before .before .before .before .before .loop .inv .1 .size)
 
 add-if1-3 : tie.Need-add-if1-3 Inv-loop μ-loop
-add-if1-3 c = let y = toIn (c .before .before .before .before .before .before .args .edges .now) (c .before .before .before .before .before .loop .e - 1) in omega (arith, c .before .before .before .before .before .before .pre .1 y (c .before .before .before .before .before .before .pre .0 .0 .tos (c .before .before .before .before .before .loop .e - 1) (omega arith)), c .before .before .before .before .before .loop .inv .1 .same y, c .before .before .before .before .before .before .pre .0 .0 .small, c .before .before .before .before .before .before .pre .0 .0 .few, c .before .before .before .before .before .before .pre .0 .0 .size, c .before .before .before .before .before .loop .inv .1 .size)
+add-if1-3 c = let y = toIn (c .before .before .before .before .before .before .args .edges .now) (c .before .before .before .before .before .loop .e - 1) in omega (arith, c .before .before .before .before .before .before .pre .1 y (c .before .before .before .before .before .before .pre .0 .0 .tos (c .before .before .before .before .before .loop .e - 1) (omega arith)), hopped-far (c .before .before .before .before .before .loop .inv .1) y, c .before .before .before .before .before .before .pre .0 .0 .small, c .before .before .before .before .before .before .pre .0 .0 .few, c .before .before .before .before .before .before .pre .0 .0 .size, c .before .before .before .before .before .loop .inv .1 .size)
 
 cast-work : tie.Need-cast-work Inv-loop μ-loop
 cast-work c = omega (arith, c .before .before .before .before .before .before .before .pre .0 .0 .froms (c .before .before .before .before .before .before .loop .e - 1) (omega arith), c .before .before .before .before .before .before .before .pre .0 .0 .tos (c .before .before .before .before .before .before .loop .e - 1) (omega arith), c .before .before .before .before .before .before .before .pre .0 .0 .small, c .before .before .before .before .before .before .before .pre .0 .0 .few, c .before .before .before .before .before .before .before .pre .0 .0 .size, c .before .before .before .before .before .before .loop .inv .1 .size)

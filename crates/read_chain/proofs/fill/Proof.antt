@@ -1,12 +1,12 @@
--- `search::fill` meets its contract. The invariant: the first i names are written.
-use Rattle.search.proofs.fill.Statement.{statement}
-use Rattle.search.proofs.fill.Tie as tie
+-- `read_chain::fill` meets its contract. The invariant: the first i names are written.
+use Rattle.read_chain.proofs.fill.Statement.{statement}
+use Rattle.read_chain.proofs.fill.Tie as tie
 use borrow.Author.Needs.{needs}
 use Prim.Native.Nat.{_+_, _-_, _*_}
 use native.Mathlib.Omega.{arith}
 use lib.ListN.{length-set}
 use Rattle.chain.specs.Index.{nameIn}
 use Rattle.search.proofs.Reading.{Filling, filling-start, filling-next, filling-end}
 
 abbrev Inv-loop : tie.InvT-loop
 Inv-loop edges count x n work₀ names y₀ i₀ work y i = Filling count edges work₀ x n work y i
@@ -65,7 +65,7 @@ mul-y-2 c = omega (arith, c .before .before .loop .inv .inside (c .before .loop-
 slice-read-y : tie.Need-slice-read-y Inv-loop μ-loop
 slice-read-y c = let l = c .before .before .before .loop in
     let a = c .before .before .before .before .args in
-    omega (arith, c .before .before .before .loop .inv .inside (c .before .before .loop-test .taken) .0, c .before .before .before .loop .inv .below .size, c .before .before .before .before .pre .0 .0 .small, c .before .before .before .before .pre .0 .0 .few, c .before .before .before .before .pre .0 .0 .size, c .before .before .before .before .pre .0 .1, c .before .before .before .before .pre .0 .2, length-set (l .work) (6 * a .count + 1 + l .i) (nameIn (a .count) (a .edges .now) (l .y)))
+    omega (arith, c .before .before .before .loop .inv .inside (c .before .before .loop-test .taken) .0, c .before .before .before .loop .inv .below .size, c .before .before .before .before .pre .0 .0 .small, c .before .before .before .before .pre .0 .0 .few, c .before .before .before .before .pre .0 .0 .size, c .before .before .before .before .pre .0 .1, c .before .before .before .before .pre .0 .2, length-set (l .work) (6 * a .count + 3 + l .i) (nameIn (a .count) (a .edges .now) (l .y)))
 
 cast-y : tie.Need-cast-y Inv-loop μ-loop
 cast-y c = let l = c .before .before .before .loop in
