@@ -15,7 +15,7 @@ use borrow.Author.Tests.{eq-eqb, ne-eqb}
 use lib.ListN.{length, length-set, getD, set}
 use lib.Seq.{getD-set-same, getD-set-other}
 use Rattle.meaning.specs.Reader.{little}
-use Rattle.table.specs.Table.{Last, Members, member, Entered, grown}
+use Rattle.table.specs.Table.{Last, Members, Entered, grown}
 use Rattle.chain.specs.Edges.{graphAt, turned, endAt, nameAt}
 use Rattle.chain.specs.Index.{namesIn, nameIn, fromIn, toIn, endIn, Named, Numbering, Same, Tied, Linking, Prepared}
 use Rattle.chain.proofs.Links.{linked-same}

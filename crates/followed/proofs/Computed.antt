@@ -10,6 +10,7 @@ unfolding followedCount followedNames reachable mentioned chainOf firstWalk walk
 computed = record {
   to-itself = refl;
   fewer-first = refl;
+  earlier-first = refl;
   one = refl;
   two = refl;
   three = refl;

@@ -70,7 +70,7 @@ module _ (g : Graph) where
     where
       at : (es : List ℕ) → IsFirstWalk g a b es → (es ≡ []) ⊎ ((ds : List ℕ) × (e : ℕ) × (es ≡ ds ++ e ∷ [])) → Chained g a b
       at es f (inl q) = one-name (subst (λ ds. IsWalk g a ds b) q (f .walk))
-      at es f (inr q) = more (record { edges = q .0; last = q .1; chain = subst (IsFirstWalk g a b) (q .2) f; from = refl })
+      at es f (inr q) = more (record { edges = q .0; last = q .1; first = subst (IsFirstWalk g a b) (q .2) f; from = refl })
 
       go : (o : Option (List ℕ)) → firstWalk g a b ≡ o → Chained g a b
       go none q = no-chain (λ p. let w = reaches-walk g p in firstWalk-none g a b q (w .0) (w .1))
@@ -95,12 +95,12 @@ module _ (g : Graph) where
 
       go : (v .0 ≡ w .0) ⊎ (Before (v .0) (w .0) ⊎ Before (w .0) (v .0)) → (x ≡ y) ⊎ (Sooner g a x y ⊎ Sooner g a y x)
       go (inl e) = inl (walk-end a x y (w .0) (subst (λ es. IsWalk g a es x) e (v .1 .walk)) (w .1 .walk))
-      go (inr (inl b)) = inr (inl (record { chain = v .0; later = w .0; is = v .1; other = w .1; before = b }))
-      go (inr (inr b)) = inr (inr (record { chain = w .0; later = v .0; is = w .1; other = v .1; before = b }))
+      go (inr (inl b)) = inr (inl (record { walk = v .0; later = w .0; is = v .1; other = w .1; before = b }))
+      go (inr (inr b)) = inr (inr (record { walk = w .0; later = v .0; is = w .1; other = v .1; before = b }))
 
   pub sooner-trans : {a x y z : ℕ} → Sooner g a x y → Sooner g a y z → Sooner g a x z
   sooner-trans s t = record {
-    chain = s .chain;
+    walk = s .walk;
     later = t .later;
     is = s .is;
     other = t .other;
@@ -112,13 +112,13 @@ module _ (g : Graph) where
 
   -- the first walk to the last name but one
   pub last-walk : {a b p : ℕ} (l : LastButOne g a b p) → IsFirstWalk g a p (l .edges)
-  last-walk {a} {b} l = subst (λ x. IsFirstWalk g a x (l .edges)) (l .from) (last-first a b (l .edges) (l .last) (l .chain))
+  last-walk {a} {b} l = subst (λ x. IsFirstWalk g a x (l .edges)) (l .from) (last-first a b (l .edges) (l .last) (l .first))
 
   pub last-sooner : {a b p : ℕ} → LastButOne g a b p → Sooner g a p b
   last-sooner l = record {
-    chain = l .edges;
+    walk = l .edges;
     later = l .edges ++ l .last ∷ [];
     is = last-walk l;
-    other = l .chain;
+    other = l .first;
     before = before-longer (l .edges) [] (l .last);
   }

@@ -105,14 +105,14 @@ module _ (g : Graph) where
   followed-chain : {a b p : ℕ} → LastButOne g a b p → followedNames g a b ≡ namesUpTo g a (some p)
   unfolding followedNames chainOf
   followed-chain {a} {b} {p} l =
-      rw (firstWalk-is g a b (l .edges ++ l .last ∷ []) (l .chain))
+      rw (firstWalk-is g a b (l .edges ++ l .last ∷ []) (l .first))
       (ap (namesUpTo g a) (last-named a p (l .last) (l .edges) (last-walk g l .walk)))
 
   -- the names whose first walk is up to that of the last name but one are followed
   pub followed-up-to : {a b p x : ℕ} {es fs : List ℕ} → LastButOne g a b p → IsFirstWalk g a x es → IsFirstWalk g a p fs → AtMost es fs → IsFollowed g a b x
   followed-up-to {a} {b} {p} {x} {es} {fs} l v w (inl q) =
       last-but-one (subst (LastButOne g a b) (walk-end g a p x fs (w .walk) (subst (λ ds. IsWalk g a ds x) q (v .walk))) l)
-  followed-up-to {es = es} {fs = fs} l v w (inr q) = sooner l (record { chain = es; later = fs; is = v; other = w; before = q })
+  followed-up-to {es = es} {fs = fs} l v w (inr q) = sooner l (record { walk = es; later = fs; is = v; other = w; before = q })
 
   listed-followed : (a b x : ℕ) → List·Memᴰ x (followedNames g a b) → IsFollowed g a b x
   listed-followed a b x m = go (chained g a b)
@@ -184,7 +184,7 @@ module _ (g : Graph) where
   followed-reached : {a b x : ℕ} → IsFollowed g a b x → Reaches g a x
   followed-reached (without-chain h p) = p
   followed-reached {a} {b} {x} (last-but-one l) = walk-reaches g a x (l .edges) (last-walk g l .walk)
-  followed-reached {a} {b} {x} (sooner l s) = walk-reaches g a x (s .chain) (s .is .walk)
+  followed-reached {a} {b} {x} (sooner l s) = walk-reaches g a x (s .walk) (s .is .walk)
 
   pub followed-at-most : (a b : ℕ) → followedCount g a b ≤ length (reachable g a)
   unfolding followedCount

@@ -18,6 +18,8 @@ pub record Examples : Type 0 where
   pub to-itself : over (edge 0 1 ∷ edge 0 0 ∷ []) 0 ≡ 0
   -- 0, 1 and 3, and not 2, whose chain has smaller edge numbers and more of them than that of 3
   pub fewer-first : over (edge 0 1 ∷ edge 1 2 ∷ edge 0 3 ∷ edge 3 4 ∷ []) 4 ≡ 3
+  -- 0 and 1, and not 2, whose chain has as many edges as that of 1 and a larger edge number
+  pub earlier-first : over (edge 0 1 ∷ edge 0 2 ∷ edge 1 3 ∷ []) 3 ≡ 2
   -- edges made at random, each count as an independent model has it
   pub one : over (edge 3 4 ∷ edge 3 4 ∷ edge 1 5 ∷ edge 1 3 ∷ edge 1 2 ∷ edge 3 5 ∷ edge 1 4 ∷ []) 3 ≡ 1
   pub two : over (edge 2 5 ∷ edge 2 3 ∷ edge 1 2 ∷ edge 2 3 ∷ edge 0 2 ∷ edge 1 3 ∷ edge 0 5 ∷ []) 5 ≡ 1

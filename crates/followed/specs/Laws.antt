@@ -1,5 +1,5 @@
--- The count of followed names as a relation, a case for each sentence of document 02's L3, and laws beside it. The relation cites none of
--- the definitions of Followed.antt.
+-- The count of followed names as a relation, in the words of document 02's L3, and laws beside it. The relation cites none of the
+-- definitions of Followed.antt. That the count is 0 from a name to itself is no case of it: there no name is followed, which is a law.
 use Prim.Native.Nat.{ℕ, suc, _≤_, _<_}
 use mathlib.Core.List.{List, [], _∷_, _++_, List·Memᴰ}
 use mathlib.Core.Logic.{_↔_, _⊎_}
@@ -14,17 +14,17 @@ use Rattle.followed.specs.Followed.{reachable, followedCount}
 
 -- the order of the names reachable from a: the chain of x has fewer edges than that of y, or as many and comes first by edge numbers
 pub record Sooner (g : Graph) (a x y : ℕ) : Type 0 where
-  pub chain : List ℕ
+  pub walk : List ℕ
   pub later : List ℕ
-  pub is : IsFirstWalk g a x chain
+  pub is : IsFirstWalk g a x walk
   pub other : IsFirstWalk g a y later
-  pub before : Before chain later
+  pub before : Before walk later
 
 -- p is the last name but one of the chain from a to b, which ends with an edge from p to b
 pub record LastButOne (g : Graph) (a b p : ℕ) : Type 0 where
   pub edges : List ℕ
   pub last : ℕ
-  pub chain : IsFirstWalk g a b (edges ++ last ∷ [])
+  pub first : IsFirstWalk g a b (edges ++ last ∷ [])
   pub from : g .from last ≡ p
 
 -- the edges of x are followed by the search from a to b

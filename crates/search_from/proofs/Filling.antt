@@ -9,7 +9,7 @@ use native.Mathlib.Numerals.{add-one}
 use lib.ListN.{length, length-append, length-map, length-set, getD, List·getD-append, take, drop, set, take-append-drop}
 use lib.Seq.{length-take-le, take-length, take-suc, drop-at, drop-cons, append-snoc, set-at, take-take, take-at, getD-at, getD-take}
 use Rattle.chain.specs.Index.{namesIn, nameIn, Indexed}
-use Rattle.search_from.specs.Queue.{leading, Leads}
+use Rattle.search_from.specs.Queue.{leading, LeadingBelow}
 use Rattle.search_from.specs.Work.{beforeIn}
 
 -- the places before k are those of c and the others those of f: one place more of f
@@ -30,8 +30,8 @@ module _ (before : ℕ → ℕ) where
   leading-length zero x = refl
   leading-length (suc k) x = length-append (leading before k (before x)) (x ∷ []) ∙ omega (arith, leading-length k (before x))
 
-  pub leads-inside : (m k x : ℕ) → Leads before m k x → x < m
-  unfolding Leads
+  pub leads-inside : (m k x : ℕ) → LeadingBelow before m k x → x < m
+  unfolding LeadingBelow
   leads-inside m zero x l = l
   leads-inside m (suc k) x l = l .0
 
@@ -39,7 +39,7 @@ module _ (before : ℕ → ℕ) where
 pub record Filling (name before : ℕ → ℕ) (m x n : ℕ) (list₀ list : List ℕ) (y i : ℕ) : Type 0 where
   pub within : i ≤ n
   pub size : length list ≡ length list₀
-  pub leads : (j : ℕ) → i ≡ suc j → Leads before m j y
+  pub leads : (j : ℕ) → i ≡ suc j → LeadingBelow before m j y
   pub part : (k j : ℕ) → n ≡ suc k → i ≡ suc j → take i (leading before k x) ≡ leading before j y
   pub held : (k : ℕ) → n ≡ suc k → list ≡ take i list₀ ++ drop i (map name (leading before k x) ++ drop n list₀)
   pub empty : n ≡ 0 → list ≡ list₀
@@ -72,7 +72,7 @@ module _ (name before : ℕ → ℕ) (m x n : ℕ) (list₀ : List ℕ) (fits : 
   written-length : (k : ℕ) → n ≡ suc k → length (map name (leading before k x)) ≡ n
   written-length k p = length-map (leading before k x) name ∙ leading-length before k x ∙ sym p
 
-  pub filling-start : ((k : ℕ) → n ≡ suc k → Leads before m k x) → Filling name before m x n list₀ list₀ x n
+  pub filling-start : ((k : ℕ) → n ≡ suc k → LeadingBelow before m k x) → Filling name before m x n list₀ list₀ x n
   filling-start leads =
       record {
         within = omega arith;
@@ -115,12 +115,12 @@ module _ (name before : ℕ → ℕ) (m x n : ℕ) (list₀ : List ℕ) (fits : 
           go (suc j) q = stands (leading before j (before y)) (ap (λ (z : ℕ). leading before z y) q) .0
 
     pub filling-turn : Filling name before m x n list₀ (set list i (name y)) (before y) i
-    unfolding leading Leads chain
+    unfolding leading LeadingBelow chain
     filling-turn =
         record {
           within = omega (arith, f .within);
           size = length-set list i (name y) ∙ f .size;
-          leads = λ j q. let t : Leads before m (suc j) y = subst (λ (z : ℕ). Leads before m z y) q (f .leads i (add-one i)) in t .1;
+          leads = λ j q. let t : LeadingBelow before m (suc j) y = subst (λ (z : ℕ). LeadingBelow before m z y) q (f .leads i (add-one i)) in t .1;
           part = λ k j p q. stands k p (leading before j (before y)) (ap (λ (z : ℕ). leading before z y) q) .1;
           held = λ k p.
               rw (f .held k p)

@@ -1,5 +1,5 @@
 pub mod Breadth
-pub mod Counting
+pub mod FollowedEntries
 pub mod Steps
 pub mod Turns
 pub mod Filling

@@ -22,7 +22,7 @@ use Rattle.table.specs.Table.{PlaceOf}
 use Rattle.chain.specs.Edges.{turned}
 use Rattle.chain.specs.Index.{namesIn, nameIn, fromIn, toIn, named, Indexed}
 use Rattle.chain.proofs.Named.{f, keeps, name-of, renamed-turned}
-use Rattle.search_from.specs.Queue.{leading, Leads}
+use Rattle.search_from.specs.Queue.{leading, LeadingBelow}
 use Rattle.search_from.specs.Work.{unturned}
 
 module _ {count : ℕ} {edges : List ℕ} (s : Indexed count edges) (small : (i : ℕ) → getD edges i 0 < 65536) where
@@ -30,8 +30,8 @@ module _ {count : ℕ} {edges : List ℕ} (s : Indexed count edges) (small : (i 
   names = turned 1 (named count edges)
 
   -- the numbers that lead to x, named
-  leading-named : (before : ℕ → ℕ) (k x : ℕ) → Leads before (namesIn edges) k x → map (f s small) (leading before k x) ≡ map (nameIn count edges) (leading before k x)
-  unfolding leading Leads
+  leading-named : (before : ℕ → ℕ) (k x : ℕ) → LeadingBelow before (namesIn edges) k x → map (f s small) (leading before k x) ≡ map (nameIn count edges) (leading before k x)
+  unfolding leading LeadingBelow
   leading-named before zero x l = ap (λ (y : ℕ). y ∷ []) (name-of s small x l)
   leading-named before (suc k) x l =
       map-append (f s small) (leading before k (before x)) (x ∷ [])
@@ -84,7 +84,7 @@ module _ {count : ℕ} {edges : List ℕ} (s : Indexed count edges) (small : (i 
     chain-none-of e =
         by-cases (decLt y (namesIn edges)) (λ (k : y < namesIn edges). chain-of k ∙ ap (Option·map (map (f s small))) e) (λ (k : ¬ (y < namesIn edges)). no-chain k)
 
-    pub chain-some-of : (before : ℕ → ℕ) (n : ℕ) → y < namesIn edges → Leads before (namesIn edges) n y → chainOf (unturned count edges) x y ≡ some (leading before n y)
+    pub chain-some-of : (before : ℕ → ℕ) (n : ℕ) → y < namesIn edges → LeadingBelow before (namesIn edges) n y → chainOf (unturned count edges) x y ≡ some (leading before n y)
         → chainOf names a b ≡ some (map (nameIn count edges) (leading before n y))
     chain-some-of before n k leads e =
         chain-of k ∙ ap (Option·map (map (f s small))) e ∙ ap {B = Option (List ℕ)} some (leading-named before n y leads)
@@ -106,4 +106,4 @@ module _ {count : ℕ} {edges : List ℕ} (s : Indexed count edges) (small : (i 
         there : (x : ℕ) → IsFollowed names a b x → a ≡ x
         there x (without-chain absent w) = let v = reaches-walk names w in stays x (v .0) (v .1)
         there x (last-but-one o) = stays x (o .edges) (last-walk names o .walk)
-        there x (sooner o w) = stays x (w .chain) (w .is .walk)
+        there x (sooner o w) = stays x (w .walk) (w .is .walk)

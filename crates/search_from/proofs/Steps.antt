@@ -3,23 +3,25 @@
 --     searching-few, searching-room     there are no more entries than numbers, and room for one that is not marked
 --     searching-push, -known            one edge followed
 --     searching-skip, -next             on to another edge, and to the next entry
+--     last-marked                       nothing that is marked comes after the last entry
 --     searching-over, -gone             what the marks say where the search is over
 use Prim.Native.Nat.{ℕ, zero, suc, _+_, _≤_, _<_}
-use mathlib.Core.Path.{_≡_, sym, ap, ap₂, _∙_, subst}
-use mathlib.Core.Logic.{⊎-elim, by-cases}
+use mathlib.Core.Path.{_≡_, refl, sym, ap, ap₂, _∙_, subst}
+use mathlib.Core.Logic.{inl, inr, ⊎-elim, by-cases}
 use mathlib.Core.List.{List, [], _∷_, _++_}
 use mathlib.Core.Option.{Option, none, some}
 use native.Mathlib.Omega.{arith}
 use native.Mathlib.Decide.{ℕ-discrete}
 use lib.ListN.{length, length-append}
-use Rattle.meaning.specs.Chain.{Graph, IsWalk, namesOn, chainOf}
+use Rattle.meaning.specs.Chain.{Graph, IsWalk, IsFirstWalk, namesOn, chainOf}
 use Rattle.meaning.proofs.ChainLaws.{firstWalk-is, firstWalk-no}
 use Rattle.meaning.proofs.Pigeonhole.{pigeonhole}
 use Rattle.followed.specs.Followed.{followedCount}
-use Rattle.search_from.specs.Queue.{Queue, Back, Searching, Marked, leading, Leads, Over}
+use Rattle.followed.proofs.FirstWalks.{first-one}
+use Rattle.search_from.specs.Queue.{NotAfter, Queue, Back, Searching, Marked, leading, LeadingBelow, Over}
 use Rattle.search_from.proofs.Breadth as breadth
 use Rattle.search_from.proofs.Breadth.{put, put-here, put-below, below-one-more, names-snoc, start-queue, entry-first, none-found}
-use Rattle.search_from.proofs.Counting.{followed-found, followed-none}
+use Rattle.search_from.proofs.FollowedEntries.{followed-found, followed-none}
 
 module _ {g : Graph} {start m : ℕ} where
   pub searching-start : {long name before : ℕ → ℕ} → ((d : ℕ) → d < g .count → (g .from d < m) × (g .to d < m)) → start < m
@@ -89,44 +91,56 @@ module _ {g : Graph} {start m : ℕ} where
 
     -- the chain of entry i can be read off the marks
     abbrev Read : ℕ → Type 0
-    Read i = (leading before (length (s .path i)) (name i) ≡ namesOn g start (s .path i)) × Leads before m (length (s .path i)) (name i)
+    Read i = (leading before (length (s .path i)) (name i) ≡ namesOn g start (s .path i)) × LeadingBelow before m (length (s .path i)) (name i)
 
     root : 0 < n → Read 0
-    unfolding leading Leads
+    unfolding leading LeadingBelow
     root l =
         let empty = s .queue .root .1 in
         let first : start ≡ name 0 = subst (λ (es : List ℕ). IsWalk g start es (name 0)) empty (s .queue .walks 0 l) in
         rw empty (ap (λ (x : ℕ). x ∷ []) (sym first), s .inside 0 l)
 
     leads : (k i : ℕ) → i ≤ k → i < n → Read i
-    unfolding leading Leads
+    unfolding leading LeadingBelow
     leads zero zero a l = root l
     leads zero (suc i) a l = absurd (omega arith)
     leads (suc k) zero a l = root l
     leads (suc k) (suc i) a l =
         let b = s .back (suc i) (omega arith) l in
-        let t = leads k (b .entry) (omega (arith, b .sooner)) (omega (arith, b .sooner)) in
+        let t = leads k (b .entry) (omega (arith, b .lower)) (omega (arith, b .lower)) in
         let size : length (s .path (suc i)) ≡ suc (length (s .path (b .entry))) = ap length (b .on) ∙ simp length-append (omega arith) in (
           rw (size, b .is)
               (ap₂ (λ (xs : List ℕ) (x : ℕ). xs ++ x ∷ []) (t .0) (sym (b .to)) ∙ sym (names-snoc g start (s .path (b .entry)) (b .edge)) ∙ ap (namesOn g start) (sym (b .on))),
           rw (size, b .is) (s .inside (suc i) l, t .1),
         )
 
-    pub entry-chain : (i k : ℕ) → i < n → long (name i) ≡ suc k → (chainOf g start (name i) ≡ some (leading before k (name i))) × Leads before m k (name i)
+    pub entry-chain : (i k : ℕ) → i < n → long (name i) ≡ suc k → (chainOf g start (name i) ≡ some (leading before k (name i))) × LeadingBelow before m k (name i)
     unfolding chainOf
     entry-chain i k l p =
         let size : length (s .path i) ≡ k = omega (arith, s .marked i l) in
         let t = leads i i (omega arith) l in
         let q = ap (λ (j : ℕ). leading before j (name i)) (sym size) ∙ t .0 in (
           rw (firstWalk-is g start (name i) (s .path i) (entry-first g start name (s .path) n h e (s .queue) i l)) (ap {B = Option (List ℕ)} some (sym q)),
-          subst (λ (j : ℕ). Leads before m j (name i)) size (t .1),
+          subst (λ (j : ℕ). LeadingBelow before m j (name i)) size (t .1),
         )
+
+    -- nothing that is marked comes after the last entry
+    pub last-marked : (k : ℕ) {y : ℕ} → n ≡ k + 1 → name k ≡ y → (x : ℕ) → 0 < long x → NotAfter g start x y
+    last-marked k size last x marked es fs v w =
+        let t = s .entered x marked in
+        let one : es ≡ s .path (t .0) = first-one g v (subst (λ (z : ℕ). IsFirstWalk g start z (s .path (t .0))) (t .2) (first (t .0) (t .1))) in
+        let two : fs ≡ s .path k = first-one g w (subst (λ (z : ℕ). IsFirstWalk g start z (s .path k)) last (first k (omega arith))) in
+        rw (one, two) (by-cases (ℕ-discrete (t .0) k) (λ (p : t .0 ≡ k). inl (ap (s .path) p)) (λ (p : ¬ (t .0 ≡ k)). inr (s .queue .rising (t .0) k (omega (arith, t .1)) (omega arith))))
+      where
+        first : (i : ℕ) → i < n → IsFirstWalk g start (name i) (s .path i)
+        first i l = entry-first g start name (s .path) n h e (s .queue) i l
 
     pub searching-gone : n ≤ h → (to : ℕ) → long to ≡ 0 → Over g start to m long before n
     unfolding chainOf
     searching-gone l to fresh =
         record {
           followed = followed-none g start name (s .path) n h e (s .queue) l to (absent to fresh);
+          ended = λ marked. absurd (omega arith);
           none = λ _. rw (firstWalk-no g start to (none-found g start name (s .path) n h e (s .queue) l to (absent to fresh)));
           some = λ k p. absurd (omega arith);
         }
@@ -184,11 +198,11 @@ module _ {g : Graph} {start m : ℕ} where
           kept : (i : ℕ) → 0 < i → i < n → Back g name′ before′ path′ i
           kept i b c =
               let t = s .back i b c in
-              let j : t .entry < n = omega (arith, t .sooner) in
+              let j : t .entry < n = omega (arith, t .lower) in
               record {
                 entry = t .entry;
                 edge = t .edge;
-                sooner = t .sooner;
+                lower = t .lower;
                 on = old-path i c ∙ t .on ∙ ap (λ (es : List ℕ). es ++ t .edge ∷ []) (sym (old-path (t .entry) j));
                 to = t .to ∙ sym (a .old i c);
                 is = ap before′ (a .old i c) ∙ a .kept (name i) (other i c) ∙ t .is ∙ sym (a .old (t .entry) j);
@@ -198,7 +212,7 @@ module _ {g : Graph} {start m : ℕ} where
           last = record {
             entry = h;
             edge = e;
-            sooner = l;
+            lower = l;
             on = new-path ∙ ap (λ (es : List ℕ). es ++ e ∷ []) (sym (old-path h l));
             to = to ∙ sym (a .last);
             is = ap before′ (a .last) ∙ a .from ∙ sym is ∙ sym (a .old h l);
@@ -213,9 +227,10 @@ module _ {g : Graph} {start m : ℕ} where
         omega (arith, a .here),
         record {
           followed = subst (λ (z : ℕ). followedCount g start z ≡ h + 1) to (followed-found g start name (s .path) n h e (s .queue) l here from (λ i b p. other i b (p ∙ to)));
+          ended = λ _ x marked es fs v w. Rattle.search_from.proofs.Steps.last-marked searching-push n refl (a .last) x marked es fs v w;
           none = λ p. absurd (omega (arith, a .here));
           some = λ k p.
-              subst (λ (z : ℕ). (chainOf g start z ≡ some (leading before′ k z)) × Leads before′ m k z) (a .last)
+              subst (λ (z : ℕ). (chainOf g start z ≡ some (leading before′ k z)) × LeadingBelow before′ m k z) (a .last)
               (Rattle.search_from.proofs.Steps.entry-chain searching-push n k (omega arith) (ap long′ (a .last) ∙ p));
         },
       )

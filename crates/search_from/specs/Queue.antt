@@ -7,7 +7,7 @@ use mathlib.Core.Logic.{_⊎_}
 use mathlib.Core.List.{List, [], _∷_, _++_}
 use mathlib.Core.Option.{none, some}
 use lib.ListN.{length}
-use Rattle.meaning.specs.Chain.{Graph, IsWalk, Before, chainOf}
+use Rattle.meaning.specs.Chain.{Graph, IsWalk, Before, IsFirstWalk, chainOf}
 use Rattle.followed.specs.Followed.{followedCount}
 
 -- edge f from entry j comes, in the order of the search, before edge e from entry h
@@ -32,7 +32,7 @@ pub record Queue (g : Graph) (start : ℕ) (name : ℕ → ℕ) (path : ℕ → 
 pub record Back (g : Graph) (name before : ℕ → ℕ) (path : ℕ → List ℕ) (i : ℕ) : Type 0 where
   pub entry : ℕ
   pub edge : ℕ
-  pub sooner : entry < i
+  pub lower : entry < i
   pub on : path i ≡ path entry ++ edge ∷ []
   pub to : g .to edge ≡ name i
   pub is : before (name i) ≡ name entry
@@ -63,15 +63,21 @@ leading before zero x = x ∷ []
 leading before (suc k) x = leading before k (before x) ++ x ∷ []
 
 -- all of them are below m
-unfoldable pub Leads : (ℕ → ℕ) → ℕ → ℕ → ℕ → Type 0
-Leads before m zero x = x < m
-Leads before m (suc k) x = (x < m) × Leads before m k (before x)
+unfoldable pub LeadingBelow : (ℕ → ℕ) → ℕ → ℕ → ℕ → Type 0
+LeadingBelow before m zero x = x < m
+LeadingBelow before m (suc k) x = (x < m) × LeadingBelow before m k (before x)
 
--- what the marks say once the search from `start` to `to` is over, with the edges of k names followed
+-- the first walk to x is that to y, or comes before it
+abbrev pub NotAfter : Graph → ℕ → ℕ → ℕ → Type 0
+NotAfter g start x y = (es fs : List ℕ) → IsFirstWalk g start x es → IsFirstWalk g start y fs → (es ≡ fs) ⊎ Before es fs
+
+-- What the marks say once the search from `start` to `to` is over, with the edges of k names followed. It has ended where `to` was marked:
+-- nothing is marked that comes after it.
 pub record Over (g : Graph) (start to m : ℕ) (long before : ℕ → ℕ) (k : ℕ) : Type 0 where
   pub followed : followedCount g start to ≡ k
+  pub ended : 0 < long to → (x : ℕ) → 0 < long x → NotAfter g start x to
   pub none : long to ≡ 0 → chainOf g start to ≡ none
-  pub some : (n : ℕ) → long to ≡ suc n → (chainOf g start to ≡ some (leading before n to)) × Leads before m n to
+  pub some : (n : ℕ) → long to ≡ suc n → (chainOf g start to ≡ some (leading before n to)) × LeadingBelow before m n to
 
 -- the edges of entry h are followed: the search goes on with n entries, `to` not among them, or it is over
 pub data Onward (g : Graph) (start to m : ℕ) (long name before : ℕ → ℕ) (n h : ℕ) : Type 0 where

@@ -10,7 +10,7 @@ ghost use Prim.Native.Nat.{ℕ, suc, _+_, _*_, _≤_, _<_};
 ghost use lib.ListN.{length, getD, drop};
 ghost use Rattle.chain.specs.Edges.{turned};
 ghost use Rattle.chain.specs.Index.{namesIn, nameIn, named, Indexed};
-ghost use Rattle.search_from.specs.Queue.{leading, Leads};
+ghost use Rattle.search_from.specs.Queue.{leading, LeadingBelow};
 ghost use Rattle.search_from.specs.Work.{longIn, beforeIn, Exploring, AfterEntry, Explored, Added};
 ghost use Rattle.search_from.specs.Listing.{Lists};
 
@@ -92,7 +92,7 @@ fn explore(edges: &[u16], count: usize, from: usize, to: usize, work: &mut [u16]
 // Writes the names on the chain of the number `x`, of which there are `n`, into the first places of the list, the last first.
 fn fill(edges: &[u16], count: usize, x: usize, n: usize, work: &[u16], list: &mut [u16])
     requires { ⌜ Indexed count (now edges) × (6 * count + 3 ≤ length (now work)) × (n ≤ length (now list)) ⌝ }
-    requires { ⌜ ((k : ℕ) → n ≡ suc k → Leads (beforeIn (now work)) (namesIn (now edges)) k x) ⌝ }
+    requires { ⌜ ((k : ℕ) → n ≡ suc k → LeadingBelow (beforeIn (now work)) (namesIn (now edges)) k x) ⌝ }
     ensures { λ _. ⌜ ((k : ℕ) → n ≡ suc k → now (list .exit) ≡ map (nameIn count (now (edges .entry))) (leading (beforeIn (now (work .entry))) k x) ++ drop n (now (list .entry))) × (n ≡ 0 → now (list .exit) ≡ now (list .entry)) ⌝ }
 {
     let names = 5 * count + 1 + chain::BUCKETS;

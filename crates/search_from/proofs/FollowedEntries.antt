@@ -38,22 +38,22 @@ module _ (g : Graph) (start : ℕ) (name : ℕ → ℕ) (path : ℕ → List ℕ
         found = first-found g start name path n h e q l m from absent
 
         last : LastButOne g start (g .to e) (name h)
-        last = record { edges = path h; last = e; chain = found; from = from }
+        last = record { edges = path h; last = e; first = found; from = from }
 
         first : (i : ℕ) → i < n → IsFirstWalk g start (name i) (path i)
         first i a = entry-first g start name path n h e q i a
 
         -- the last name but one of the chain is that of entry h
         here : (x : ℕ) → LastButOne g start (g .to e) x → name h ≡ x
-        here x o = sym from ∙ ap (g .from) (sym (snoc-same (o .edges) (path h) (o .last) e (first-one g (o .chain) found) .1)) ∙ o .from
+        here x o = sym from ∙ ap (g .from) (sym (snoc-same (o .edges) (path h) (o .last) e (first-one g (o .first) found) .1)) ∙ o .from
 
         there : (x : ℕ) → IsFollowed g start (g .to e) x → (i : ℕ) × (i < h + 1) × (name i ≡ x)
         there x (without-chain no-chain p) = absurd (no-chain (walk-reaches g start (g .to e) (path h ++ e ∷ []) (found .walk)))
         there x (last-but-one o) = (h, omega arith, here x o)
         there x (sooner {p = p} o s) =
             let walk : IsFirstWalk g start (name h) (s .later) = subst (λ (y : ℕ). IsFirstWalk g start y (s .later)) (sym (here p o)) (s .other) in
-            let before : Before (s .chain) (path h) = subst (λ (es : List ℕ). Before (s .chain) es) (first-one g walk (first h l)) (s .before) in
-            let r = entry-of g start name path n h e q l x (s .chain) (s .is .walk) (inr before) in
+            let before : Before (s .walk) (path h) = subst (λ (es : List ℕ). Before (s .walk) es) (first-one g walk (first h l)) (s .before) in
+            let r = entry-of g start name path n h e q l x (s .walk) (s .is .walk) (inr before) in
             (r .0, omega (arith, r .1), r .2)
 
         back : (i : ℕ) → i < h + 1 → IsFollowed g start (g .to e) (name i)
@@ -61,7 +61,7 @@ module _ (g : Graph) (start : ℕ) (name : ℕ → ℕ) (path : ℕ → List ℕ
             by-cases (ℕ-discrete i h) (λ (p : i ≡ h). subst (λ (j : ℕ). IsFollowed g start (g .to e) (name j)) (sym p) (last-but-one last))
             (λ (p : ¬ (i ≡ h)).
             sooner last
-            (record { chain = path i; later = path h; is = first i (omega arith); other = first h l; before = q .rising i h (omega arith) l }))
+            (record { walk = path i; later = path h; is = first i (omega arith); other = first h l; before = q .rising i h (omega arith) l }))
 
   -- no edge is left
   pub followed-none : n ≤ h → (b : ℕ) → ((i : ℕ) → i < n → name i ≡ b → ⊥) → followedCount g start b ≡ n
@@ -72,5 +72,5 @@ module _ (g : Graph) (start : ℕ) (name : ℕ → ℕ) (path : ℕ → List ℕ
     where
       reached : (x : ℕ) → IsFollowed g start b x → (i : ℕ) × (i < n) × (name i ≡ x)
       reached x (without-chain no-chain p) = let w = reaches-walk g p in all-found g start name path n h e q l x (w .0) (w .1)
-      reached x (last-but-one o) = absurd (none-found g start name path n h e q l b absent (o .edges ++ o .last ∷ []) (o .chain .walk))
-      reached x (sooner o s) = all-found g start name path n h e q l x (s .chain) (s .is .walk)
+      reached x (last-but-one o) = absurd (none-found g start name path n h e q l b absent (o .edges ++ o .last ∷ []) (o .first .walk))
+      reached x (sooner o s) = all-found g start name path n h e q l x (s .walk) (s .is .walk)
