@@ -40,7 +40,8 @@ impl Search {
     }
 
     pub fn words(&self, names: &Names) -> String {
-        let (from, to) = (names.short(self.from), names.short(self.to));
+        // Whole: of two long names the starts may be the same.
+        let (from, to) = (names.word(self.from), names.word(self.to));
         let chain = match self.found.names.is_empty() {
             true => format!("No chain leads from `{from}` to `{to}`."),
             false => names.join(&self.found.names, " -> "),
@@ -56,7 +57,7 @@ impl Search {
             0 => format!("No edge leads from `{from}` to another name."),
             others => {
                 let others = counted(others, "other name");
-                format!("Edges lead from `{from}` to {others}.")
+                format!("Edges lead from `{from}`, directly or through others, to {others}.")
             }
         };
         format!("{chain}\n{search}\n{all}\n")

@@ -11,12 +11,13 @@ use layout_text::explain::{explain, Parts, Source};
 use layout_text::names::Names;
 use layout_text::parse::{parse, Text};
 use layout_text::read::read;
-use layout_text::recognise::is_text;
+use layout_text::recognise::{is_bundle, is_text};
 use layout_text::report::{self, Report};
 use layout_text::show::show;
 use layout_text::sizes::Sizes;
 use layout_text::tree::{Bundle, Name, BYTE_LIMIT};
-use layout_text::words::cut;
+use layout_text::words::{cut, one_line};
+use std::borrow::Cow;
 use std::io::{self, Write};
 use std::os::unix::fs::MetadataExt;
 use std::process::ExitCode;
@@ -41,7 +42,8 @@ that has a fixed size, and says why the others have none; of an array whose size
 written as a sum the value too, or which part of the sum has none. With NAME, a word or
 a number as #17, it is that definition alone. --svg draws that one. chain prints the
 names on the shortest path of edges from FROM to TO, each a word or a number as #17, of
-how many names the edges were followed for it, and to how many edges lead from FROM.
+how many names the edges were followed for it, and to how many edges lead from FROM,
+directly or through others. --names gives the words for names, in place of FILE's own.
 A text may have 4,194,304 bytes.
 Exit codes: 0 done, and for explain no violation; 1 violations; 2 a bundle that is
 refused, or a NAME without a fixed size; 3 a damaged text, a report that is not the
@@ -263,10 +265,10 @@ fn same_file(path: Option<&str>, other: &str) -> bool {
     }
 }
 
-fn label(path: Option<&str>) -> &str {
+fn label(path: Option<&str>) -> Cow<'_, str> {
     match path {
-        None | Some("-") => "standard input",
-        Some(path) => path,
+        None | Some("-") => Cow::Borrowed("standard input"),
+        Some(path) => one_line(path),
     }
 }
 
@@ -308,8 +310,8 @@ fn bundle_bytes(path: Option<&str>) -> Result<Vec<u8>, Failure> {
 
 fn output(path: Option<&str>, bytes: &[u8]) -> Result<(), Failure> {
     let place = match path {
-        None | Some("-") => "standard output",
-        Some(path) => path,
+        None | Some("-") => Cow::Borrowed("standard output"),
+        Some(path) => one_line(path),
     };
     files::write(path, bytes).map_err(|error| match error {
         FileError::Gone => (String::new(), FAILED),
@@ -322,7 +324,11 @@ fn text_from(path: Option<&str>) -> Result<Text, Failure> {
 }
 
 fn parse_file(path: Option<&str>, bytes: Vec<u8>) -> Result<Text, Failure> {
-    let failure = |message: String| (format!("{}: {message}", label(path)), FAILED);
+    let hint = match is_bundle(&bytes) {
+        true => "; the file looks like a bundle, and a text is due",
+        false => "",
+    };
+    let failure = |message: String| (format!("{}: {message}{hint}", label(path)), FAILED);
     let text = String::from_utf8(bytes).map_err(|error| {
         let position = error.utf8_error().valid_up_to();
         failure(format!(
@@ -465,14 +471,27 @@ fn run_chain(arguments: &Arguments) -> Result<u8, Failure> {
 /// The number of a name that is asked about; it need not be in the set.
 fn name_of(arguments: &Arguments, word: Option<&str>, source: &Source) -> Result<Name, Failure> {
     let word = word.unwrap_or_default();
-    let hint = match word.starts_with('#') {
-        true => "; a number from 0 to 65535 is due behind the #",
-        false => unknown_hint(word, source),
-    };
     source.names.find(word).ok_or_else(|| {
+        let hint = match word.starts_with('#') {
+            true => "; a number from 0 to 65535 is due behind the #".to_string(),
+            false => unnamed_hint(arguments, word, source),
+        };
         let (place, word) = (label(arguments.file.as_deref()), cut(word));
         (format!("{place}: `{word}` is no name{hint}"), FAILED)
     })
+}
+
+/// Where a word is no name, and what can be given in its place.
+fn unnamed_hint(arguments: &Arguments, word: &str, source: &Source) -> String {
+    let hint = unknown_hint(arguments, word, source);
+    match &arguments.names {
+        None if hint.is_empty() => {
+            " in this set; give a name of the set, or # and a number".to_string()
+        }
+        None => format!(" in this set{hint}"),
+        Some(_) if source.names.is_empty() || is_number(word) => hint,
+        Some(_) => format!("{hint}: give one of them, or # and a number"),
+    }
 }
 
 fn run_sizes(arguments: &Arguments) -> Result<u8, Failure> {
@@ -508,18 +527,33 @@ fn accepted(bytes: &[u8]) -> Result<Bundle, String> {
     }
 }
 
-/// How a name can be given that is not known.
-fn unknown_hint(name: &str, source: &Source) -> &'static str {
-    let digits = !name.is_empty() && name.bytes().all(|byte| byte.is_ascii_digit());
-    match (source.names.is_empty() && !name.starts_with('#'), digits) {
-        (true, _) => "; no words are known for its names: write #17 for name 17, or give --names",
-        (false, true) => "; write #17 for name 17",
-        (false, false) => "",
+/// Whether a word is a number without its sign.
+fn is_number(word: &str) -> bool {
+    !word.is_empty() && word.bytes().all(|byte| byte.is_ascii_digit())
+}
+
+/// How a name can be given that is not known, and where the words for names are from if that is not the set.
+fn unknown_hint(arguments: &Arguments, name: &str, source: &Source) -> String {
+    let number = "write #17 for name 17";
+    let none = source.names.is_empty();
+    match arguments.names.as_deref() {
+        // A number is the same with all words.
+        _ if name.starts_with('#') => String::new(),
+        _ if is_number(name) && !none => format!("; {number}"),
+        None if none => format!("; no words are known for its names: {number}, or give --names"),
+        None => String::new(),
+        given => {
+            let end = match none {
+                true => format!(", which has none: {number}"),
+                false => String::new(),
+            };
+            format!("; the names are those of {} (--names){end}", label(given))
+        }
     }
 }
 
 fn undefined(arguments: &Arguments, name: &str, source: &Source) -> Failure {
-    let hint = unknown_hint(name, source);
+    let hint = unknown_hint(arguments, name, source);
     let (place, name) = (label(arguments.file.as_deref()), cut(name));
     (format!("{place}: `{name}` has no definition{hint}"), FAILED)
 }

@@ -299,13 +299,13 @@ CHAIN
 "$tool" assemble "$work/chain.layout" > "$work/chain.bundle"
 expect 0 'a -> b -> d -> e' chain "$work/chain.layout" a e
 expect 0 'The search followed the edges of 4 names.' chain "$work/chain.layout" a e
-expect 0 'Edges lead from `a` to 4 other names.' chain "$work/chain.layout" a e
+expect 0 'Edges lead from `a`, directly or through others, to 4 other names.' chain "$work/chain.layout" a e
 expect 0 'The search followed the edges of 1 name.' chain "$work/chain.layout" a c
 expect 0 'a -> b -> d -> e' chain "$work/chain.bundle" a e --names "$work/chain.layout"
 expect 0 '#1 -> #3 -> #2 -> #5' chain "$work/chain.bundle" '#1' '#5'
 expect 0 'a -> b -> d -> e' chain "$work/chain.layout" '#1' '#0005'
 expect 0 'z -> far' chain "$work/chain.layout" z '#700'
-expect 0 'Edges lead from `z` to 1 other name.' chain "$work/chain.layout" z far
+expect 0 'Edges lead from `z`, directly or through others, to 1 other name.' chain "$work/chain.layout" z far
 expect 0 'No chain leads from `a` to `z`.' chain "$work/chain.layout" a z
 expect 0 'The search followed the edges of 5 names.' chain "$work/chain.layout" a z
 expect 0 'No chain leads from `#0` to `#65535`.' chain "$work/chain.layout" '#0' '#65535'
@@ -317,16 +317,64 @@ expect 0 'a -> b -> d -> e' chain - a e
 expect 0 'a -> b -> d -> e' chain - a e --text
 expect 0 'a -> b -> d -> e' chain --names - "$work/chain.bundle" a e
 expect 2 'Refused: stranger (3)' chain - a e --bytes
-wrong '`nowhere` is no name' chain "$work/chain.layout" nowhere a
-wrong '`nowhere` is no name' chain "$work/chain.layout" a nowhere
-wrong '`` is no name' chain "$work/chain.layout" '' a
-wrong '`-` is no name' chain "$work/chain.layout" a -
-wrong '`1` is no name; write #17 for name 17' chain "$work/chain.layout" a 1
+due='is no name in this set; give a name of the set, or # and a number'
+wrong "\`nowhere\` $due" chain "$work/chain.layout" nowhere a
+wrong "\`nowhere\` $due" chain "$work/chain.layout" a nowhere
+wrong "\`\` $due" chain "$work/chain.layout" '' a
+wrong "\`\` $due" chain "$work/chain.layout" a ''
+wrong "\`-\` $due" chain "$work/chain.layout" a -
+wrong '`1` is no name in this set; write #17 for name 17' chain "$work/chain.layout" a 1
 for name in '#' '#65536' '#+1' '#x' '#1 ' '##1'; do
   wrong "\`$name\` is no name; a number from 0 to 65535 is due behind the #" chain "$work/chain.layout" a "$name"
 done
-wrong '7777…` is no name' chain "$work/chain.layout" a "$(printf '%0999d' 0 | tr 0 7)"
+wrong '7777…` is no name in this set; write #17 for name 17' chain "$work/chain.layout" a "$(printf '%0999d' 0 | tr 0 7)"
 wrong 'no words are known for its names: write #17 for name 17, or give --names' chain "$work/chain.bundle" a e
+wrong '`` is no name in this set; no words are known for its names: write #17' chain "$work/chain.bundle" '' '#1'
+# Control characters, and what else would end or turn the line.
+odd=$(printf 'a\nb\033[2J\302\205\342\200\256\\')
+line='`a\nb\u{1b}[2J\u{85}\u{202e}\\`'
+wrong "$line $due" chain "$work/chain.layout" "$odd" a
+wrong "$line $due" chain "$work/chain.layout" a "$odd"
+wrong "\`#\\n1\` is no name; a number from 0" chain "$work/chain.layout" a "$(printf '#\n1')"
+wrong "$line has no definition" sizes "$work/sizes.layout" "$odd"
+wrong "$line is one argument too many" chain "$work/chain.layout" a b "$odd"
+wrong "$line is no verb" "$odd"
+wrong 'none\nfile: cannot be read: No such file' chain "$(printf 'none\nfile')" a b
+wrong 'none\nfile/x: cannot be written: No such file' assemble "$work/chain.layout" -o "$(printf 'none\nfile/x')"
+printf 'define \033 u8' > "$work/plain"
+wrong 'column 8: `\u{1b}` has no meaning here' assemble "$work/plain"
+# Names that are not the set's own.
+printf 'name zebra = 5' > "$work/zebra"
+due="the names are those of $work/zebra (--names)"
+wrong "\`a\` is no name; $due: give one of them, or # and a number" \
+  chain "$work/chain.layout" a e --names "$work/zebra"
+wrong "\`a\` is no name; $due: give one of them, or # and a number" \
+  chain "$work/chain.bundle" zebra a --names "$work/zebra"
+wrong '`1` is no name; write #17 for name 17' chain "$work/chain.layout" 1 zebra --names "$work/zebra"
+wrong '`#x` is no name; a number from 0 to 65535 is due' chain "$work/chain.layout" '#x' zebra --names "$work/zebra"
+expect 0 '#1 -> #3 -> #2 -> zebra' chain "$work/chain.layout" '#1' zebra --names "$work/zebra"
+wrong "\`cell\` has no definition; $due" sizes "$work/sizes.layout" cell --names "$work/zebra"
+wrong "\`zebra\` has no definition; $due" sizes "$work/sizes.bundle" zebra --names "$work/zebra"
+wrong '`#77` has no definition' sizes "$work/sizes.layout" '#77' --names "$work/zebra"
+grep -q 'names' "$work/printed" && fail 'a number is told to depend on --names'
+printf '// nothing' > "$work/zebra"
+for verb in "chain $work/chain.layout cell #1" "sizes $work/sizes.layout cell"; do
+  wrong "$due, which has none: write #17 for name 17" $verb --names "$work/zebra"
+done
+printf 'name zebra = 5' > "$work/input"
+wrong 'the names are those of standard input (--names)' chain "$work/chain.layout" a e --names -
+# A bundle where a text is due.
+due='; the file looks like a bundle, and a text is due'
+for verb in "chain $work/chain.layout a e" "sizes $work/sizes.layout" "explain $work/chain.bundle" "show $work/chain.bundle"; do
+  wrong "$work/sizes.bundle: line 1, column 1: \`\`\` has no meaning here$due" $verb --names "$work/sizes.bundle"
+done
+wrong "$due" assemble "$work/chain.bundle"
+wrong "$due" chain "$work/chain.bundle" a e --text
+printf '`\377' > "$work/cut"
+wrong "no text: byte 1 starts no letter of UTF-8$due" assemble "$work/cut"
+printf '\377' > "$work/cut"
+wrong 'no text: byte 0 starts no letter of UTF-8' assemble "$work/cut"
+grep -q 'bundle, and' "$work/printed" && fail 'other bytes are taken for a bundle'
 wrong '`chain` needs FILE, FROM and TO' chain
 wrong '`chain` needs FILE, FROM and TO' chain "$work/chain.layout"
 wrong '`chain` needs FILE, FROM and TO' chain "$work/chain.layout" a
@@ -350,24 +398,27 @@ expect 2 'Refused: overlong (1)' chain "$work/cut" '#1' '#2'
 printf 'edge a -> b' > "$work/wrong.layout"
 wrong 'line 1, column ' chain "$work/wrong.layout" a b
 
-# The examples of chains and of sizes in README.md.
-rm -f "$work"/example-*
-awk -v work="$work" '
-  sub(/^    \$ layout-text chain /, "") { file = work "/example-chain"; print > (file ".words"); next }
-  /^$/ { file = "" }
-  file { print substr($0, 5) > file }' tools/layout-text/README.md
-"$tool" chain $(cat "$work/example-chain.words") 2>&1 | cmp -s - "$work/example-chain" || fail 'the example of a chain in README.md'
-rm -f "$work"/example-*
-awk -v work="$work" '
-  sub(/^    \$ layout-text sizes /, "") { file = work "/example-" ++n; print > (file ".words"); next }
-  /^$/ { file = "" }
-  file { print substr($0, 5) > file }' tools/layout-text/README.md
-examples=0
-for example in "$work"/example-*.words; do
-  examples=$((examples + 1))
-  "$tool" sizes $(cat "$example") 2>&1 | cmp -s - "${example%.words}" || fail "the example $(cat "$example") of README.md"
-done
-[ "$examples" -eq 5 ] || fail "$examples examples of sizes in README.md"
+# The examples of README.md. examples VERB COUNT: those of a verb, and how many there are.
+examples() {
+  rm -f "$work"/example-*
+  awk -v work="$work" -v verb="$1" '
+    /^    \$ layout-text / { file = "" }
+    index($0, "    $ layout-text " verb " ") == 1 {
+      file = work "/example-" ++n
+      print substr($0, length(verb) + 20) > (file ".words")
+      next
+    }
+    /^$/ { file = "" }
+    file { print substr($0, 5) > file }' tools/layout-text/README.md
+  found=0
+  for example in "$work"/example-*.words; do
+    found=$((found + 1))
+    "$tool" "$1" $(cat "$example") 2>&1 | cmp -s - "${example%.words}" || fail "the example $1 $(cat "$example") of README.md"
+  done
+  [ "$found" -eq "$2" ] || fail "$found examples of $1 in README.md"
+}
+examples chain 3
+examples sizes 5
 
 # Pictures: to a file or to standard output; words where there is none to draw.
 expect 0 - sizes "$work/sizes.layout" cell --svg -o "$work/picture.svg"
