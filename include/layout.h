@@ -9,22 +9,23 @@
  *
  * What happens to the output: an accepted call writes `*written` items from the
  * start of the buffer and leaves the rest of the buffer as it was. A refused
- * call leaves the whole buffer, `*written`, for layout_fixed_size `*size` and
- * `*alignment`, and for layout_size_value `*value` as they were. The bundle is only
- * read. Bundle, buffer, `written`, `size`, `alignment` and `value` must not overlap.
+ * call leaves the whole buffer, `*written`, for layout_chain_followed `*followed`,
+ * for layout_fixed_size `*size` and `*alignment`, and for layout_size_value `*value`
+ * as they were. The bundle is only read. Bundle, buffer, `written`, `followed`,
+ * `size`, `alignment` and `value` must not overlap.
  *
  * A pointer to a bundle or a buffer may be null only if its length is 0;
- * `written`, `size`, `alignment` and `value` may never be null.
+ * `written`, `followed`, `size`, `alignment` and `value` may never be null.
  *
  * Byte order: in the bytes of a bundle and of a report every number of more than
- * one byte is little-endian. The names that layout_chain takes and writes, the
- * numbers that layout_fixed_size and layout_size_value take and write, and
- * `*written`, are numbers of C in the machine's own order. docs/FORMAT.md has both
- * formats byte by byte.
+ * one byte is little-endian. The names that layout_chain and layout_chain_followed
+ * take and write, the numbers that layout_fixed_size and layout_size_value take and
+ * write, `*written` and `*followed` are numbers of C in the machine's own order.
+ * docs/FORMAT.md has both formats byte by byte.
  *
  * Alignment: bundles and buffers of bytes may start at any address. `list` must be
  * aligned as uint16_t, `offsets` as uint32_t, `size` and `alignment` as uint64_t,
- * `value` as int64_t, and `written` as size_t.
+ * `value` as int64_t, and `written` and `followed` as size_t.
  *
  * Threads: the library has no variables of its own, no heap and no locks, and keeps
  * nothing from one call to the next. Calls may run at the same time. Several may
@@ -64,12 +65,13 @@ extern "C" {
  * which only layout_fixed_size and layout_size_value have, and 9 last. Each call has
  * these, in the order in which they count:
  *
- *   layout_accept      1 to 8
- *   layout_report      1 to 8, 9
- *   layout_renumber    1 to 8, 9
- *   layout_chain       1 to 8, 9
- *   layout_fixed_size  1 to 8, 10, 11, 12, 9
- *   layout_size_value  1 to 8, 11, then the first of 13, 14 and 15 that is met
+ *   layout_accept          1 to 8
+ *   layout_report          1 to 8, 9
+ *   layout_renumber        1 to 8, 9
+ *   layout_chain           1 to 8, 9
+ *   layout_chain_followed  1 to 8, 9
+ *   layout_fixed_size      1 to 8, 10, 11, 12, 9
+ *   layout_size_value      1 to 8, 11, then the first of 13, 14 and 15 that is met
  */
 enum layout_refusal {
   LAYOUT_ACCEPTED = 0,
@@ -115,6 +117,21 @@ uint8_t layout_renumber(const uint8_t *bundle, size_t bundle_len, uint8_t *out,
 uint8_t layout_chain(const uint8_t *bundle, size_t bundle_len, uint16_t from,
                      uint16_t to, uint16_t *list, size_t list_len,
                      size_t *written);
+
+/* The same chain, with the same refusals, and in `*followed` how far the search went
+ * for it: the number of names whose edges it followed.
+ *
+ * The names that edges lead to from `from`, and `from` itself, are ordered by the
+ * chains to them: fewer edges first, then by edge numbers. The search follows the
+ * edges of these names in this order and ends at the first edge to `to`. So
+ * `*followed` counts the names up to the last but one of the chain, that one
+ * included; without a chain it counts all of them, and `from` also if no edge has
+ * it. From a name to itself it is 0. It is 1,025 at the most, and does not depend on
+ * `list_len`. A refusal, 9 too, gives no count. */
+uint8_t layout_chain_followed(const uint8_t *bundle, size_t bundle_len,
+                              uint16_t from, uint16_t to, uint16_t *list,
+                              size_t list_len, size_t *written,
+                              size_t *followed);
 
 /* The size and the alignment, in bytes, of a definition that never varies, and the
  * offsets of its fields. `definition` is its number, from 0 in the bundle's order.

@@ -242,8 +242,9 @@ static void make_bundle(const struct shape *shape) {
   bytes[2] = (uint8_t)(definitions >> 8);
 }
 
-enum { ACCEPT, REPORT, RENUMBER, CHAIN, FIXED_SIZE, SIZE_VALUE, CALLS };
-static const char *const call_names[] = {"accept", "report", "renumber", "chain", "fixed size", "size value"};
+enum { ACCEPT, REPORT, RENUMBER, CHAIN, CHAIN_FOLLOWED, FIXED_SIZE, SIZE_VALUE, CALLS };
+static const char *const call_names[] = {"accept",         "report",     "renumber",  "chain",
+                                         "chain followed", "fixed size", "size value"};
 
 static uint8_t *region;
 static uint8_t *out;
@@ -255,7 +256,7 @@ static uint8_t answer;
 static char where[256];
 
 static void make_call(void) {
-  size_t written = 0;
+  size_t written = 0, followed = 0;
   uint64_t size = 0, alignment = 0;
   int64_t value = 0;
   switch (call) {
@@ -270,6 +271,9 @@ static void make_call(void) {
     break;
   case CHAIN:
     answer = layout_chain(bytes, length, 900, 1, list, 1025, &written);
+    break;
+  case CHAIN_FOLLOWED:
+    answer = layout_chain_followed(bytes, length, 900, 1, list, 1025, &written, &followed);
     break;
   case FIXED_SIZE:
     answer = layout_fixed_size(bytes, length, 0, offsets, LAYOUT_FIELD_LIMIT, &size, &alignment, &written);
@@ -423,7 +427,7 @@ int main(int count, char **words) {
     }
   }
   for (call = 0; measuring && call < CALLS; call++) {
-    printf("%-11s%8lu  %s\n", call_names[call], (unsigned long)most[call], most_where[call]);
+    printf("%-15s%8lu  %s\n", call_names[call], (unsigned long)most[call], most_where[call]);
   }
   if (!measuring) {
     printf("every call has enough with %lu bytes of stack\n", (unsigned long)STACK_BYTES);

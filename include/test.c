@@ -85,6 +85,137 @@ static void check_chain(void) {
   check(layout_chain(edges, 30, 6, 9, list, 4, &written) == LAYOUT_SHORT, "short");
 }
 
+/* What a call of layout_chain_followed may write, with noise in it before. */
+struct search {
+  uint16_t list[6];
+  size_t written;
+  size_t followed;
+};
+static const struct search unsearched = {{77, 78, 79, 80, 81, 82}, 83, 84};
+
+static int same_search(const struct search *one, const struct search *other) {
+  return memcmp(one->list, other->list, sizeof one->list) == 0 &&
+         one->written == other->written && one->followed == other->followed;
+}
+
+/* Calls with noise in the answer and a list of so many places. */
+static uint8_t follow(const uint8_t *bundle, size_t length, uint16_t from, uint16_t to,
+                      size_t list_len, struct search *search) {
+  *search = unsearched;
+  return layout_chain_followed(bundle, length, from, to, search->list, list_len,
+                               &search->written, &search->followed);
+}
+
+/* Edges 1 to 2, 1 to 3 twice, 1 to 1, 3 to 5, 2 to 4, 2 to 5, 5 to 1, 4 to 6, 8 to 9. From 1
+ * the order is 1, 2 (by edge 0), 3 (1), 4 (0, 5), 5 (0, 6), 6 (0, 5, 8); 7, 8 and 9 are not
+ * reached. */
+enum { GRAPH_LEN = 67 };
+static const uint8_t graph[GRAPH_LEN] = {
+    0x60, 0, 0, 10, 0, 0, 0, 0x62, 1, 0, 2, 0, 0, 0x62, 1, 0, 3, 0, 0, 0x62, 1, 0, 3,
+    0,    1, 0x62, 1, 0, 1, 0, 0, 0x62, 3, 0, 5, 0, 2, 0x62, 2, 0, 4, 0, 3, 0x62, 2, 0,
+    5,    0, 0, 0x62, 5, 0, 1, 0, 0, 0x62, 4, 0, 6, 0, 0, 0x62, 8, 0, 9, 0, 0};
+
+static const struct {
+  const char *what;
+  uint16_t from;
+  uint16_t to;
+  struct search due; /* its list has the names alone, and not what is kept behind them */
+} searches[] = {
+    {"a name to itself", 1, 1, {{1}, 1, 0}},
+    {"a name to itself that no edge has", 7, 7, {{7}, 1, 0}},
+    {"the first edge", 1, 2, {{1, 2}, 2, 1}},
+    {"two edges alike", 1, 3, {{1, 3}, 2, 1}},
+    {"by the second name", 1, 4, {{1, 2, 4}, 3, 2}},
+    {"by the second name and not the third, whose edge stands first", 1, 5, {{1, 2, 5}, 3, 2}},
+    {"by the fourth name", 1, 6, {{1, 2, 4, 6}, 4, 4}},
+    {"around a circle", 3, 2, {{3, 5, 1, 2}, 4, 3}},
+    {"another part", 8, 9, {{8, 9}, 2, 1}},
+    {"a name that is not reached", 1, 8, {{0}, 0, 6}},
+    {"a name that no edge has", 1, 7, {{0}, 0, 6}},
+    {"from a name without edges of its own", 6, 1, {{0}, 0, 1}},
+    {"from a name that no edge has", 7, 1, {{0}, 0, 1}},
+};
+
+static void check_chain_followed(void) {
+  struct search search;
+  for (size_t i = 0; i < sizeof searches / sizeof *searches; i++) {
+    const uint16_t from = searches[i].from, to = searches[i].to;
+    struct search due = searches[i].due;
+    const size_t names = due.written;
+    memcpy(due.list + names, unsearched.list + names, (6 - names) * sizeof *due.list);
+    check(follow(graph, GRAPH_LEN, from, to, 6, &search) == 0, searches[i].what);
+    check(same_search(&search, &due), "names and count; the rest is kept");
+    check(follow(graph, GRAPH_LEN, from, to, names, &search) == 0, "an exact list");
+    check(same_search(&search, &due), "the same names and count");
+    if (names == 0) continue;
+    check(follow(graph, GRAPH_LEN, from, to, names - 1, &search) == LAYOUT_NARROW, "one short");
+    check(same_search(&search, &unsearched), "narrow writes nothing");
+    check(follow(graph, GRAPH_LEN, from, to, 0, &search) == LAYOUT_NARROW, "no places");
+    check(same_search(&search, &unsearched), "narrow writes nothing");
+  }
+  search = unsearched;
+  check(layout_chain_followed(graph, GRAPH_LEN, 6, 1, NULL, 0, &search.written,
+                              &search.followed) == 0,
+        "no list where there is no chain");
+  check(search.written == 0 && search.followed == 1, "its count");
+}
+
+/* Refused bundles, from a name to itself, to another and without a chain. */
+static void check_chain_followed_refusals(void) {
+  static const uint8_t circle[13] = {0x60, 1, 0, 0, 0, 0, 0, 0x61, 1, 0, 0x40, 1, 0};
+  static const struct {
+    size_t at;
+    uint8_t byte;
+    size_t length;
+    uint8_t due;
+  } damaged[] = {{0, 0x60, GRAPH_LEN - 1, LAYOUT_SHORT},     {0, 0x60, 0, LAYOUT_SHORT},
+                 {GRAPH_LEN - 6, 0x61, GRAPH_LEN, LAYOUT_STRANGER},
+                 {GRAPH_LEN - 1, 4, GRAPH_LEN, LAYOUT_OFF_SCALE},
+                 {4, 8, GRAPH_LEN, LAYOUT_CROWDED},          {0, 0x60, GRAPH_LEN + 1, LAYOUT_TRAILING},
+                 {0, 0x60, LAYOUT_BYTE_LIMIT + 1, LAYOUT_OVERLONG}};
+  static uint8_t bundle[LAYOUT_BYTE_LIMIT + 1];
+  struct search search;
+  for (size_t i = 0; i < sizeof damaged / sizeof *damaged; i++) {
+    memcpy(bundle, graph, GRAPH_LEN);
+    bundle[damaged[i].at] = damaged[i].byte;
+    for (uint16_t to = 1; to < 8; to++) {
+      const size_t length = damaged[i].length;
+      check(follow(bundle, length, 1, to, 6 * (to % 2), &search) == damaged[i].due, "damaged");
+      check(same_search(&search, &unsearched), "a refused call writes nothing");
+    }
+  }
+  check(follow(circle, 13, 1, 1, 0, &search) == LAYOUT_CIRCLE, "circle before narrow");
+  check(same_search(&search, &unsearched), "a refused call writes nothing");
+  check(follow(circle, 13, 1, 2, 6, &search) == LAYOUT_CIRCLE, "circle before none");
+  check(same_search(&search, &unsearched), "a refused call writes nothing");
+}
+
+/* A line of as many edges as there can be, from 0 on: the longest chain, and the highest count. */
+static void check_longest_chain(void) {
+  static uint8_t bundle[7 + 6 * LAYOUT_EDGE_LIMIT];
+  static uint16_t list[LAYOUT_EDGE_LIMIT + 1];
+  const uint8_t header[7] = {0x60, 0, 0, LAYOUT_EDGE_LIMIT % 256, LAYOUT_EDGE_LIMIT / 256, 0, 0};
+  size_t written = 77, followed = 78;
+  memcpy(bundle, header, 7);
+  for (unsigned i = 0; i < LAYOUT_EDGE_LIMIT; i++) {
+    const uint8_t edge[6] = {0x62, (uint8_t)i, (uint8_t)(i >> 8), (uint8_t)(i + 1),
+                             (uint8_t)((i + 1) >> 8), 0};
+    memcpy(bundle + 7 + 6 * i, edge, 6);
+  }
+  check(layout_chain_followed(bundle, sizeof bundle, 0, LAYOUT_EDGE_LIMIT, list,
+                              LAYOUT_EDGE_LIMIT, &written, &followed) == LAYOUT_NARROW,
+        "one short for the longest chain");
+  check(written == 77 && followed == 78 && list[0] == 0, "narrow writes nothing");
+  check(layout_chain_followed(bundle, sizeof bundle, 0, LAYOUT_EDGE_LIMIT, list,
+                              LAYOUT_EDGE_LIMIT + 1, &written, &followed) == 0,
+        "the longest chain");
+  check(written == LAYOUT_EDGE_LIMIT + 1 && followed == LAYOUT_EDGE_LIMIT, "its length and count");
+  check(list[0] == 0 && list[LAYOUT_EDGE_LIMIT] == LAYOUT_EDGE_LIMIT, "its ends");
+  check(layout_chain_followed(bundle, sizeof bundle, 0, 0xFFFF, list, 0, &written, &followed) == 0,
+        "none over all edges");
+  check(written == 0 && followed == LAYOUT_EDGE_LIMIT + 1, "the highest count");
+}
+
 /* Names of two different bytes: the low byte first in bundle and report, and
  * numbers of C in the list. */
 static void check_byte_order(void) {
@@ -102,6 +233,10 @@ static void check_byte_order(void) {
   check(layout_chain(named, 36, 0x1234, 0xFF, list, 4, &written) == 0, "chain");
   check(written == 3 && list[0] == 0x1234 && list[1] == 0x5678 && list[2] == 0xFF,
         "names as numbers");
+  struct search search;
+  const struct search due = {{0x1234, 0x5678, 0xFF, 80, 81, 82}, 3, 2};
+  check(follow(named, 36, 0x1234, 0xFF, 6, &search) == 0, "the same chain with its count");
+  check(same_search(&search, &due), "names and count as numbers");
 }
 
 /* A struct of U8, U32, U8; a TypeRef to it; an array of three of the TypeRef; and a
@@ -469,6 +604,10 @@ static void check_unaligned(void) {
     check(written == 31 && memcmp(out, renumbered, 31) == 0, "its bytes");
     check(layout_chain(bundle, 31, 9, 6, list, 3, &written) == 0, "unaligned chain");
     check(written == 3 && list[0] == 9 && list[1] == 8 && list[2] == 6, "its names");
+    struct search search;
+    const struct search due = {{9, 8, 6, 80, 81, 82}, 3, 2};
+    check(follow(bundle, 31, 9, 6, 3, &search) == 0, "unaligned chain with its count");
+    check(same_search(&search, &due), "its names and count");
     memcpy(bundle, fixed, FIXED_LEN);
     check(ask(bundle, 1, 3, &answer) == 0, "unaligned fixed size");
     check(answer.size == 12 && answer.written == 3 && answer.offsets[2] == 8, "its offsets");
@@ -525,6 +664,9 @@ static void *call_often(void *given) {
                            : written != 22 || memcmp(out, jagged_report, 22) != 0;
     work->wrong += layout_chain(edges, 31, 9, 6, list, 4, &written) != 0;
     work->wrong += written != 3 || list[0] != 9 || list[1] != 8 || list[2] != 6;
+    struct search search;
+    work->wrong += follow(graph, GRAPH_LEN, 1, 6, 6, &search) != 0;
+    work->wrong += search.written != 4 || search.list[3] != 6 || search.followed != 4;
     struct answer answer;
     work->wrong += ask(fixed, 0, 5, &answer) != 0;
     work->wrong += answer.size != 12 || answer.written != 3 || answer.offsets[2] != 8;
@@ -564,6 +706,9 @@ int main(void) {
   check_report();
   check_renumber();
   check_chain();
+  check_chain_followed();
+  check_chain_followed_refusals();
+  check_longest_chain();
   check_byte_order();
   check_fixed_size();
   check_fixed_size_refusals();

@@ -1,6 +1,7 @@
 #!/bin/sh
 # Assembles and explains each sample and compares with what is stored beside it, its
-# fixed sizes too, and each set of docs/PASS.md and compares with what its first line says.
+# fixed sizes and chains too, and each set of docs/PASS.md and compares with what its
+# first line says.
 # Usage: samples/check.sh [LIBRARY]
 # With LIBRARY, layout-text is built over that static library first (see
 # tools/layout-text/build.sh); otherwise it is built only where it is missing.
@@ -38,6 +39,12 @@ for name in $names; do
   due=samples/$name.sizes
   [ "$status" -ne 2 ] || due=samples/$name.expected
   compare "$name, sizes" "$due" "$work/sizes"
+  if [ -f "samples/$name.chain" ]; then
+    chains $name "$work/bundle" --names "$(text $name)" > "$work/chains"
+    compare "$name, chains" "samples/$name.chain" "$work/chains"
+    chains $name "$(text $name)" > "$work/chains"
+    compare "$name, chains from the text" "samples/$name.chain" "$work/chains"
+  fi
 done
 "$tool" sizes samples/sizes-fixed.layout display_frame --svg > "$work/picture" || :
 compare 'sizes-fixed, picture' samples/sizes-fixed.svg "$work/picture"

@@ -10,6 +10,20 @@ text() {
   esac
 }
 
+# chains NAME FILE OPTION..: each pair of names in samples/NAME.chain, on a line that starts with $, and what is said about the chain
+# from the one to the other in FILE.
+chains() {
+  asked=samples/$1.chain
+  shift
+  between=
+  sed -n 's/^\$ //p' "$asked" | while read -r from to; do
+    printf '%s$ %s %s\n' "$between" "$from" "$to"
+    "$tool" chain "$1" "$from" "$to" ${2+"$2" "$3"} || echo "exit code $?"
+    between='
+'
+  done
+}
+
 # The damaged ones are winch.layout cut off after 100 bytes, and with one byte more.
 bundle() {
   case $1 in

@@ -3,7 +3,8 @@
 # the source: the oracle (tools/oracle/build.sh) gives the report's bytes, and
 # layout-text puts them into words as they are given, whatever the library says
 # that is linked to it. Writes NAME.sizes beside each sample that is not refused,
-# and sizes-fixed.svg, with the oracle's second implementation as the source:
+# the answers in each NAME.chain to the pairs of names that stand in it, and
+# sizes-fixed.svg, with the oracle's second implementation as the source:
 # layout-text is built over the stand-in (tools/bench/standin/build.sh) first.
 # Usage: samples/make-expected.sh
 set -eu
@@ -26,6 +27,10 @@ for name in $names; do
     cp "$work/sizes" "samples/$name.sizes"
   else
     [ $? -eq 2 ]
+  fi
+  if [ -f "samples/$name.chain" ]; then
+    chains $name "$work/bundle" --names "$(text $name)" > "$work/chains"
+    cp "$work/chains" "samples/$name.chain"
   fi
 done
 "$tool" sizes samples/sizes-fixed.layout display_frame --svg -o samples/sizes-fixed.svg

@@ -7,7 +7,7 @@ cd "$(dirname "$0")/.."
 program=${1:-target/bin/layout}
 work=$(mktemp -d)
 trap 'rm -rf "$work"' EXIT
-echo 'layout: wrong arguments; take none, renumber, chain FROM TO, size NUMBER, value NUMBER (each 0 to 65535) or help' > "$work/wrong"
+echo 'layout: wrong arguments; take none, renumber, chain FROM TO, followed FROM TO, size NUMBER, value NUMBER (each 0 to 65535) or help' > "$work/wrong"
 echo 'layout: standard input cannot be read' > "$work/unread"
 echo 'layout: standard output cannot be written' > "$work/unwritten"
 : > "$work/nothing"
@@ -110,9 +110,17 @@ from=longest
 to=
 n=64511
 while [ $n -le 65535 ]; do echo $n; n=$((n + 1)); done > "$work/due"
+cp "$work/due" "$work/due-chain"
 run chain 64511 65535
 compare 'longest, chain 64511 65535' "$work/nothing" "$work/nothing"
 try longest 'chain 65535 64511' lines
+{ echo 1024; cat "$work/due-chain"; } > "$work/due"
+cp "$work/bundle-longest" "$work/input"
+run followed 64511 65535
+compare 'longest, followed 64511 65535' "$work/nothing" "$work/nothing"
+try longest 'followed 64511 1' 'lines 1025'
+try longest 'followed 65535 64511' 'lines 1'
+try longest 'followed 64511 64513' 'lines 2 64511 64512 64513'
 
 # A report of 64,914 bytes: 21 arrays 65535, each sized by 64511.1, from which that chain leads to it. One more is over the room.
 arrays() {
@@ -149,8 +157,10 @@ compare 'widest, size 0' "$work/nothing" "$work/nothing"
 head -c 32769 /dev/zero > "$work/bundle-overlong"
 try overlong renumber 'bytes 7e 01'
 try overlong 'chain 1 1' 'bytes 7e 01'
+try overlong 'followed 1 1' 'bytes 7e 01'
 try overlong 'size 0' 'bytes 7e 01'
 try overlong 'value 0' 'bytes 7e 01'
 try edges "chain 7 $(printf '%04097d' 9)" wrong
+try edges "followed 7 $(printf '%04097d' 9)" wrong
 echo "$passed passed, $failed failed"
 [ "$failed" -eq 0 ]

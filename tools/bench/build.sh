@@ -5,6 +5,8 @@
 # absolute. Default: the stand-in, which is built where it is missing.
 # LINK_FLAGS may hold flags for the linker, such as -no-pie.
 # The oracle must have been built (tools/oracle/build.sh).
+# A library from before the count of a search (layout_chain_followed) is taken too: what
+# asks for the count is left out then.
 set -eu
 here=$(cd "$(dirname "$0")" && pwd)
 cd "$here/../.."
@@ -23,6 +25,9 @@ done
 compile() {
   rustc --edition 2021 -C opt-level=3 -C codegen-units=1 -L "$target" -L tools/oracle/target "$@"
 }
+if ! nm "$library" | grep -q ' T layout_chain_followed$'; then
+  set -- "$@" --cfg without_count
+fi
 compile --crate-type rlib --crate-name layout --out-dir "$target" bindings/rust/src/lib.rs
 compile --crate-type bin --crate-name bench --extern layout --extern layout_oracle \
   "$@" -o "$target/bench" tools/bench/src/main.rs

@@ -23,16 +23,16 @@ counted() { # PATTERN
     END { print sum + 0 }'
 }
 
-printf '%-46s%8s  %-11s%14s%10s%12s\n' case bytes call instructions 'a byte' cleared
+printf '%-46s%8s  %-15s%14s%10s%12s\n' case bytes call instructions 'a byte' cleared
 for file in "$@"; do
   bytes=$(wc -c < "$file")
-  for call in report accept renumber chain fixed_size size_value; do
+  for call in report accept renumber chain chain_followed fixed_size size_value; do
     valgrind --tool=callgrind --callgrind-out-file="$target/counts" --toggle-collect="layout_$call" \
       "$target/one_call" "$file" "$call" > "$target/said" 2>&1 || true
     all=$(sed -n 's/.*Collected : *//p' "$target/said")
     cleared=$(counted memset)
     own=$((all - cleared))
-    printf '%-46s%8s  %-11s%14s%10s%12s\n' "$(basename "$file")" "$bytes" "$call" "$own" \
+    printf '%-46s%8s  %-15s%14s%10s%12s\n' "$(basename "$file")" "$bytes" "$call" "$own" \
       "$(awk "BEGIN { printf \"%.1f\", $own / $bytes }")" "$cleared"
   done
 done

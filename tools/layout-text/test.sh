@@ -22,6 +22,7 @@ run() {
 }
 run notation
 run sizes
+run chain
 if [ -f tools/oracle/target/liblayout_oracle.rlib ]; then
   run random -L tools/oracle/target --extern layout_oracle
 fi

@@ -16,6 +16,8 @@ pub use refusal::Refusal;
 pub const BYTE_LIMIT: usize = 32_768;
 /// No chain is longer: 1,024 edges join 1,025 names.
 pub const CHAIN_LIMIT: usize = 1_025;
+/// No search follows the edges of more names: 1,024 edges lead to as many, and the start is one more.
+pub const FOLLOWED_LIMIT: usize = 1_025;
 /// No struct has more fields: 32,768 bytes hold 22 of header, definition and struct, and 4 for each field.
 pub const FIELD_LIMIT: usize = 8_186;
 /// The stack that a call may take, from where it is made; as in `include/layout.h`, measured and tested, and not proved.
@@ -53,6 +55,16 @@ mod calls {
             list_len: usize,
             written: *mut usize,
         ) -> u8;
+        pub fn layout_chain_followed(
+            bundle: *const u8,
+            bundle_len: usize,
+            from: u16,
+            to: u16,
+            list: *mut u16,
+            list_len: usize,
+            written: *mut usize,
+            followed: *mut usize,
+        ) -> u8;
         pub fn layout_fixed_size(
             bundle: *const u8,
             bundle_len: usize,
@@ -70,6 +82,24 @@ mod calls {
             value: *mut i64,
         ) -> u8;
     }
+}
+
+/// What `chain_followed` gives besides the names.
+#[derive(Clone, Copy, Debug, PartialEq, Eq)]
+pub struct Search {
+    /// How many names the chain has, 0 if there is none.
+    pub written: usize,
+    /// How many names had their edges followed; `FOLLOWED_LIMIT` at most.
+    pub followed: usize,
+}
+
+/// A chain with the count of names whose edges were followed for it.
+#[derive(Clone, Debug, PartialEq, Eq)]
+pub struct FollowedChain {
+    /// From the start to the end of the chain; empty if there is none.
+    pub names: Vec<u16>,
+    /// As in `Search`.
+    pub followed: usize,
 }
 
 /// What `fixed_size` gives besides the offsets.
@@ -151,6 +181,30 @@ pub fn chain(bundle: &[u8], from: u16, to: u16, list: &mut [u16]) -> Result<usiz
     outcome(number, written)
 }
 
+/// Writes the same names as `chain`, and counts the names whose edges the search followed.
+pub fn chain_followed(
+    bundle: &[u8],
+    from: u16,
+    to: u16,
+    list: &mut [u16],
+) -> Result<Search, Refusal> {
+    let (mut written, mut followed) = (0, 0);
+    // As in `chain`.
+    let number = unsafe {
+        calls::layout_chain_followed(
+            bundle.as_ptr(),
+            bundle.len(),
+            from,
+            to,
+            list.as_mut_ptr(),
+            list.len(),
+            &mut written,
+            &mut followed,
+        )
+    };
+    outcome(number, Search { written, followed })
+}
+
 /// Size and alignment of the definition of that number, from 0, if they are fixed. The offsets of its fields stand at
 /// the start of `offsets` then.
 pub fn fixed_size(
@@ -218,6 +272,17 @@ pub fn chain_vec(bundle: &[u8], from: u16, to: u16) -> Result<Vec<u16>, Refusal>
     let written = chain(bundle, from, to, &mut list)?;
     list.truncate(written);
     Ok(list)
+}
+
+/// The chain from one name to another with the count of names whose edges were followed.
+pub fn chain_followed_vec(bundle: &[u8], from: u16, to: u16) -> Result<FollowedChain, Refusal> {
+    let mut names = vec![0; CHAIN_LIMIT];
+    let found = chain_followed(bundle, from, to, &mut names)?;
+    names.truncate(found.written);
+    Ok(FollowedChain {
+        names,
+        followed: found.followed,
+    })
 }
 
 /// Size, alignment and field offsets of the definition of that number, if they are fixed.

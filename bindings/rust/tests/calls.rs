@@ -1,8 +1,9 @@
 //! Each call on bundles of a few bytes: answers, refusals, buffers kept.
 
 use layout::{
-    accept, chain, chain_vec, fixed_size, fixed_size_vec, renumber, renumber_vec, report,
-    report_vec, size_value, FixedLayout, FixedSize, Refusal, BYTE_LIMIT, FIELD_LIMIT, STACK_BYTES,
+    accept, chain, chain_followed, chain_followed_vec, chain_vec, fixed_size, fixed_size_vec,
+    renumber, renumber_vec, report, report_vec, size_value, FixedLayout, FixedSize, FollowedChain,
+    Refusal, Search, BYTE_LIMIT, CHAIN_LIMIT, FIELD_LIMIT, FOLLOWED_LIMIT, STACK_BYTES,
 };
 
 /// A jagged array of three U8 and its report.
@@ -70,6 +71,13 @@ fn each_refusal_has_its_number() {
         assert_eq!(report(&bytes, &mut [0; 64]), Err(refusal));
         assert_eq!(renumber(&bytes, &mut [0; 64]), Err(refusal));
         assert_eq!(chain(&bytes, 1, 1, &mut [0; 64]), Err(refusal));
+        for (to, room) in [(1, 64), (2, 64), (1, 0), (2, 0)] {
+            let mut list = vec![77; room];
+            let found = chain_followed(&bytes, 1, to, &mut list);
+            assert_eq!(found, Err(refusal));
+            assert!(list.iter().all(|name| *name == 77));
+        }
+        assert_eq!(chain_followed_vec(&bytes, 1, 1), Err(refusal));
         assert_eq!(fixed_size(&bytes, 0, &mut [0; 64]), Err(refusal));
         assert_eq!(fixed_size(&bytes, usize::MAX, &mut []), Err(refusal));
         assert_eq!(size_value(&bytes, 0), Err(refusal));
@@ -146,6 +154,81 @@ fn chain_is_narrow_only_where_there_is_one() {
     let mut list = [77; 4];
     assert_eq!(chain(&bytes, 1, 3, &mut list), Ok(3));
     assert_eq!(list, [1, 2, 3, 77]);
+}
+
+/// Several names at the same distance, two edges alike, a loop, a circle, and a part of its own. From 1 the order is 1,
+/// 2 (by edge 0), 3 (1), 4 (0, 5), 5 (0, 6), 6 (0, 5, 8).
+fn graph() -> Vec<u8> {
+    edges(&[
+        (1, 2),
+        (1, 3),
+        (1, 3),
+        (1, 1),
+        (3, 5),
+        (2, 4),
+        (2, 5),
+        (5, 1),
+        (4, 6),
+        (8, 9),
+    ])
+}
+
+#[test]
+fn a_chain_comes_with_the_count_of_names_followed() {
+    let cases: [(u16, u16, &[u16], usize); 13] = [
+        (1, 1, &[1], 0),
+        (7, 7, &[7], 0),
+        (1, 2, &[1, 2], 1),
+        (1, 3, &[1, 3], 1),
+        (1, 4, &[1, 2, 4], 2),
+        (1, 5, &[1, 2, 5], 2),
+        (1, 6, &[1, 2, 4, 6], 4),
+        (3, 2, &[3, 5, 1, 2], 3),
+        (8, 9, &[8, 9], 1),
+        (1, 8, &[], 6),
+        (1, 7, &[], 6),
+        (6, 1, &[], 1),
+        (7, 1, &[], 1),
+    ];
+    for (from, to, names, followed) in cases {
+        let due = FollowedChain {
+            names: names.to_vec(),
+            followed,
+        };
+        assert_eq!(chain_followed_vec(&graph(), from, to), Ok(due));
+        assert_eq!(chain_vec(&graph(), from, to), Ok(names.to_vec()));
+    }
+}
+
+#[test]
+fn a_followed_chain_fills_its_length_and_keeps_the_rest() {
+    let due = |written, followed| Ok(Search { written, followed });
+    let mut list = [77; 6];
+    assert_eq!(chain_followed(&graph(), 1, 6, &mut list), due(4, 4));
+    assert_eq!(list, [1, 2, 4, 6, 77, 77]);
+    let mut list = [77; 4];
+    assert_eq!(chain_followed(&graph(), 1, 6, &mut list), due(4, 4));
+    assert_eq!(list, [1, 2, 4, 6]);
+    let mut list = [77; 3];
+    let narrow = Err(Refusal::Narrow);
+    assert_eq!(chain_followed(&graph(), 1, 6, &mut list), narrow);
+    assert_eq!(chain_followed(&graph(), 1, 7, &mut list), due(0, 6));
+    assert_eq!(list, [77; 3]);
+    assert_eq!(chain_followed(&graph(), 1, 6, &mut []), narrow);
+    assert_eq!(chain_followed(&graph(), 1, 1, &mut []), narrow);
+    assert_eq!(chain_followed(&graph(), 1, 7, &mut []), due(0, 6));
+}
+
+#[test]
+fn the_longest_chain_and_the_highest_count() {
+    let bytes = line(1_024);
+    let found = chain_followed_vec(&bytes, 1, 1_025).unwrap();
+    assert_eq!(found.names, (1..=1_025).collect::<Vec<u16>>());
+    assert_eq!((found.names.len(), found.followed), (CHAIN_LIMIT, 1_024));
+    let none = chain_followed_vec(&bytes, 1, 2_000).unwrap();
+    assert_eq!((none.names.len(), none.followed), (0, FOLLOWED_LIMIT));
+    let near = chain_followed_vec(&bytes, 1, 2).unwrap();
+    assert_eq!((near.names, near.followed), (vec![1, 2], 1));
 }
 
 /// A type that starts with its kind, packed and aligned, and goes on with `rest`.
@@ -532,6 +615,8 @@ fn a_thread_with_the_stated_stack_is_enough() {
             Ok(bundle.len())
         );
         assert_eq!(chain_vec(&bundle, 1, 2), Ok(vec![]));
+        let followed = chain_followed_vec(&bundle, 1, 2).map(|found| found.followed);
+        assert_eq!(followed, Ok(1));
         assert_eq!(fixed_size_vec(&bundle, 0), found(1, 1, &[0]));
         assert_eq!(size_value(&bundle, 0), Err(Refusal::Varying));
     };

@@ -1,4 +1,5 @@
 -- The edges that stand in a bundle's bytes are those of its tree.
+--     graph-read         the edges in the bytes have the names of the tree's
 --     chain-read         the chain over the edges of the tree is that over the edges in the bytes
 use Prim.Native.Nat.{ℕ, zero, suc, _+_, _*_}
 use mathlib.Core.Path.{_≡_, refl, ap, _∙_}
@@ -20,15 +21,16 @@ at-place f [] i x e = let z : _≡_ {A = ℕ} 0 1 = cc in absurd (omega arith)
 at-place f (y ∷ es) zero x e = ap f (cc)
 at-place f (y ∷ es) (suc i) x e = at-place f es i x e
 
+-- the edges in the bytes have the names of the tree's
+pub graph-read : (s : List ℕ) (b : Bundle) (at : ℕ) → EdgesFrom s (b .edges) at → Renamed (λ n. n) (graphAt s at (length (b .edges))) (graph b)
+unfolding edgeAt
+graph-read s b at edges =
+    record {
+      count = refl;
+      from = λ e l. at-place (λ x. x .from) (b .edges) e _ (edges .each e l) ∙ name-read s (at + 6 * e + 1);
+      to = λ e l. at-place (λ x. x .to) (b .edges) e _ (edges .each e l) ∙ name-read s (at + 6 * e + 3);
+    }
+
 pub chain-read : (s : List ℕ) (b : Bundle) (at : ℕ) → EdgesFrom s (b .edges) at → (a c : ℕ)
     → chainOf (graph b) a c ≡ chainOf (graphAt s at (length (b .edges))) a c
-unfolding edgeAt
-chain-read s b at edges a c = chainOf-same (graphAt s at (length (b .edges))) (graph b) same a c
-  where
-    same : Renamed (λ n. n) (graphAt s at (length (b .edges))) (graph b)
-    same =
-        record {
-          count = refl;
-          from = λ e l. at-place (λ x. x .from) (b .edges) e _ (edges .each e l) ∙ name-read s (at + 6 * e + 1);
-          to = λ e l. at-place (λ x. x .to) (b .edges) e _ (edges .each e l) ∙ name-read s (at + 6 * e + 3);
-        }
+chain-read s b at edges a c = chainOf-same (graphAt s at (length (b .edges))) (graph b) (graph-read s b at edges) a c

@@ -1,6 +1,8 @@
 -- A chain between numbers, said of their names.
 --     chain-named          the chain between names is the chain between their numbers, named
 --     name-of              what names it
+--     renamed-turned       the edges between numbers and between names, turned round
+--     prepared-same        prepared edges are the edges that were prepared
 --     prepared-chain       a chain over prepared edges
 use Prim.Native.Nat.{ℕ, _+_, _*_, _≤_, _<_}
 use mathlib.Core.Path.{_≡_, refl, sym, ap, ap₂, _∙_}
@@ -16,6 +18,7 @@ use lib.ListN.{getD}
 use Rattle.meaning.specs.Chain.{Graph, chainOf}
 use Rattle.meaning.proofs.Chains.{Renamed, chainOf-map, chainOf-same}
 use Rattle.meaning.proofs.Walks.{order}
+use Rattle.chain.specs.Edges.{turned}
 use Rattle.chain.specs.Index.{namesIn, nameIn, fromIn, toIn, numbered, named, Indexed, Prepared}
 
 -- the name of the number x, and beyond the numbers one that is no name
@@ -42,7 +45,7 @@ module _ {count : ℕ} {edges : List ℕ} (s : Indexed count edges) (small : (i 
       by-cases (decLt i (namesIn edges)) (λ (a : i < namesIn edges). omega (arith, small (5 * count + 1 + 256 + 2 * i), name-of i a, outside j (omega arith)))
       (λ (a : ¬ (i < namesIn edges)). omega (arith, outside i (omega arith), outside j (omega arith))))
 
-  keeps : (i j : ℕ) → eqb (f i) (f j) ≡ eqb i j
+  pub keeps : (i j : ℕ) → eqb (f i) (f j) ≡ eqb i j
   keeps i j =
       ⊎-elim (λ (p : i < j). ne-eqb (f i) (f j) (apart i j p) ∙ sym (ne-eqb i j (omega arith)))
       (λ (t : (i ≡ j) ⊎ (j < i)).
@@ -59,14 +62,20 @@ module _ {count : ℕ} {edges : List ℕ} (s : Indexed count edges) (small : (i 
         to = λ e l. sym (name-of (toIn edges e) (s .tos e l));
       }
 
+  -- the same edges, turned round
+  pub renamed-turned : Renamed f (turned 1 (numbered count edges)) (turned 1 (named count edges))
+  renamed-turned = record { count = refl; from = renamed .to; to = renamed .from }
+
   pub chain-named : (a b : ℕ) → a < namesIn edges → b < namesIn edges
       → chainOf (named count edges) (nameIn count edges a) (nameIn count edges b) ≡ Option·map (map f) (chainOf (numbered count edges) a b)
   chain-named a b l k =
       ap₂ (chainOf (named count edges)) (sym (name-of a l)) (sym (name-of b k)) ∙ chainOf-map f keeps (numbered count edges) (named count edges) renamed a b
 
--- the chains over prepared edges are those over the edges that were prepared
+-- prepared edges are the edges that were prepared
+pub prepared-same : {g : Graph} {count : ℕ} {edges : List ℕ} → Prepared g count edges → Renamed (λ n. n) g (named count edges)
+prepared-same p =
+    record { count = sym (p .counted); from = λ e l. p .froms e (omega (arith, p .counted)); to = λ e l. p .tos e (omega (arith, p .counted)) }
+
+-- and so are their chains
 pub prepared-chain : {g : Graph} {count : ℕ} {edges : List ℕ} → Prepared g count edges → (a b : ℕ) → chainOf (named count edges) a b ≡ chainOf g a b
-prepared-chain {g} {count} {edges} p a b =
-    chainOf-same g (named count edges)
-    (record { count = sym (p .counted); from = λ e l. p .froms e (omega (arith, p .counted)); to = λ e l. p .tos e (omega (arith, p .counted)) })
-    a b
+prepared-chain {g} {count} {edges} p a b = chainOf-same g (named count edges) (prepared-same p) a b

@@ -4,7 +4,7 @@
 --     numbering-none      before the first name
 --     numbering-more      one end of an edge more
 --     tied, prepared      what the edges' ends are, and all that `prepare` makes
-use Prim.Native.Nat.{ℕ, _+_, _-_, _*_, _/_, _%_, _≤_, _<_}
+use Prim.Native.Nat.{ℕ, zero, suc, _+_, _-_, _*_, _/_, _%_, _≤_, _<_}
 use mathlib.Core.Path.{_≡_, refl, sym, ap, _∙_, subst}
 use mathlib.Core.Logic.{by-cases}
 use mathlib.Core.List.{List}
@@ -15,8 +15,8 @@ use borrow.Author.Tests.{eq-eqb, ne-eqb}
 use lib.ListN.{length, length-set, getD, set}
 use lib.Seq.{getD-set-same, getD-set-other}
 use Rattle.meaning.specs.Reader.{little}
-use Rattle.table.specs.Table.{Last, Members, member, Entered, grown}
-use Rattle.chain.specs.Edges.{graphAt, endAt, nameAt}
+use Rattle.table.specs.Table.{Last, Members, Entered, grown}
+use Rattle.chain.specs.Edges.{graphAt, turned, endAt, nameAt}
 use Rattle.chain.specs.Index.{namesIn, nameIn, fromIn, toIn, endIn, Named, Numbering, Same, Tied, Linking, Prepared}
 use Rattle.chain.proofs.Links.{linked-same}
 
@@ -42,9 +42,9 @@ members-kept {t} {t′} {a} {b} {n} m same size =
           none = λ j l k e. o .none j l k (ap (λ (y : ℕ). y % b) (sym (same (a + b + 2 * j) (omega arith))) ∙ e);
         }
 
-pub numbering-none : (bytes : List ℕ) (at : ℕ) {count : ℕ} {edges : List ℕ} → 9 * count + 257 ≤ length edges → Members edges (5 * count + 1) 256 0
-    → Numbering bytes at 0 count edges 0
-numbering-none bytes at l m = record { members = m; few = omega arith; ends = λ i a. absurd (omega arith); size = l }
+pub numbering-none : (bytes : List ℕ) (at turn : ℕ) {count : ℕ} {edges : List ℕ} → 9 * count + 257 ≤ length edges → Members edges (5 * count + 1) 256 0
+    → Numbering bytes at turn 0 count edges 0
+numbering-none bytes at turn l m = record { members = m; few = omega arith; ends = λ i a. absurd (omega arith); size = l }
 
 -- one member, or as many, and the place is among them
 grown-by : (n r : ℕ) → r ≤ n → (n ≤ grown n r) × (r < grown n r) × (grown n r ≤ n + 1)
@@ -56,10 +56,10 @@ grown-by n r l =
 place-apart : (i j : ℕ) → 3 * (j / 2) + j % 2 + 1 ≡ 3 * (i / 2) + i % 2 + 1 → j ≡ i
 place-apart i j e = omega arith
 
-pub numbering-more : {bytes : List ℕ} {at i count : ℕ} {edges : List ℕ} {m x r k : ℕ} {edges′ : List ℕ}
-    → Numbering bytes at i count edges m → i < 2 * count → x ≡ endAt bytes at i → Entered edges (5 * count + 1) 256 m x r edges′ → k ≡ grown m r
-    → Numbering bytes at (i + 1) count (set edges′ (3 * (i / 2) + i % 2 + 1) r) k
-numbering-more {bytes} {at} {i} {count} {edges} {m} {x} {r} {edges′ = edges′} s l is e p =
+pub numbering-more : {bytes : List ℕ} {at turn i count : ℕ} {edges : List ℕ} {m x r k : ℕ} {edges′ : List ℕ}
+    → Numbering bytes at turn i count edges m → i < 2 * count → x ≡ endAt bytes at turn i → Entered edges (5 * count + 1) 256 m x r edges′ → k ≡ grown m r
+    → Numbering bytes at turn (i + 1) count (set edges′ (3 * (i / 2) + i % 2 + 1) r) k
+numbering-more {bytes} {at} {turn} {i} {count} {edges} {m} {x} {r} {edges′ = edges′} s l is e p =
     rw p
     (record {
       members = members-kept (e .all) (λ j a. table j (omega arith)) (length-set edges′ place r);
@@ -77,7 +77,7 @@ numbering-more {bytes} {at} {i} {count} {edges} {m} {x} {r} {edges′ = edges′
     table : (j : ℕ) → 5 * count < j → getD (set edges′ place r) j 0 ≡ getD edges′ j 0
     table j a = getD-set-other edges′ place j r 0 (λ q. omega arith)
 
-    ends : (j : ℕ) → j < i + 1 → Named count (set edges′ place r) (grown m r) (endIn (set edges′ place r) j) (endAt bytes at j)
+    ends : (j : ℕ) → j < i + 1 → Named count (set edges′ place r) (grown m r) (endIn (set edges′ place r) j) (endAt bytes at turn j)
     ends j a =
         by-cases (ℕ-discrete j i)
         (λ (t : j ≡ i).
@@ -88,17 +88,32 @@ numbering-more {bytes} {at} {i} {count} {edges} {m} {x} {r} {edges′ = edges′
         rw (getD-set-other edges′ place (3 * (j / 2) + j % 2 + 1) r 0 (λ q. t (place-apart i j q)), e .only .before (3 * (j / 2) + j % 2 + 1) (omega arith))
         (omega (arith, o .0, g .0), table (5 * count + 1 + 256 + 2 * endIn edges j) (omega arith) ∙ e .old (endIn edges j) (o .0) ∙ o .1))
 
-module _ {bytes : List ℕ} {at count : ℕ} {edges : List ℕ} {m : ℕ} (s : Numbering bytes at (2 * count) count edges m) where
-  end-of : (i : ℕ) → i < 2 * count → (p : ℕ) → 3 * (i / 2) + i % 2 + 1 ≡ p → (q : ℕ) → at + 6 * (i / 2) + 2 * (i % 2) + 1 ≡ q → Named count edges m (getD edges p 0) (nameAt bytes q)
+module _ {bytes : List ℕ} {at turn count : ℕ} {edges : List ℕ} {m : ℕ} (one-turn : turn ≤ 1) (s : Numbering bytes at turn (2 * count) count edges m) where
+  end-of : (i : ℕ) → i < 2 * count → (p : ℕ) → 3 * (i / 2) + i % 2 + 1 ≡ p → (q : ℕ) → at + 6 * (i / 2) + 2 * ((i + turn) % 2) + 1 ≡ q → Named count edges m (getD edges p 0) (nameAt bytes q)
   end-of i a p e q f =
       subst (λ (z : ℕ). Named count edges m (getD edges p 0) (nameAt bytes z)) f
-      (subst (λ (z : ℕ). Named count edges m (getD edges z 0) (endAt bytes at i)) e (s .ends i a))
+      (subst (λ (z : ℕ). Named count edges m (getD edges z 0) (endAt bytes at turn i)) e (s .ends i a))
 
-  from-of : (e : ℕ) → e < count → Named count edges m (fromIn edges e) (graphAt bytes at count .from e)
-  from-of e l = end-of (2 * e) (omega arith) (3 * e + 1) (omega arith) (at + 6 * e + 1) (omega arith)
+  from-of : (e : ℕ) → e < count → Named count edges m (fromIn edges e) (turned turn (graphAt bytes at count) .from e)
+  from-of e l = go turn refl
+    where
+      go : (t : ℕ) → turn ≡ t → Named count edges m (fromIn edges e) (turned t (graphAt bytes at count) .from e)
+      go zero p = end-of (2 * e) (omega arith) (3 * e + 1) (omega arith) (at + 6 * e + 1) (omega arith)
+      go (suc t) p = end-of (2 * e) (omega arith) (3 * e + 1) (omega arith) (at + 6 * e + 3) (omega arith)
 
-  to-of : (e : ℕ) → e < count → Named count edges m (toIn edges e) (graphAt bytes at count .to e)
-  to-of e l = end-of (2 * e + 1) (omega arith) (3 * e + 2) (omega arith) (at + 6 * e + 3) (omega arith)
+  to-of : (e : ℕ) → e < count → Named count edges m (toIn edges e) (turned turn (graphAt bytes at count) .to e)
+  to-of e l = go turn refl
+    where
+      go : (t : ℕ) → turn ≡ t → Named count edges m (toIn edges e) (turned t (graphAt bytes at count) .to e)
+      go zero p = end-of (2 * e + 1) (omega arith) (3 * e + 2) (omega arith) (at + 6 * e + 3) (omega arith)
+      go (suc t) p = end-of (2 * e + 1) (omega arith) (3 * e + 2) (omega arith) (at + 6 * e + 1) (omega arith)
+
+  same-count : turned turn (graphAt bytes at count) .count ≡ count
+  same-count = go turn
+    where
+      go : (t : ℕ) → turned t (graphAt bytes at count) .count ≡ count
+      go zero = refl
+      go (suc t) = refl
 
   pub tied : {edges′ : List ℕ} → count ≤ 1024 → Same count edges edges′ → Tied count edges′
   tied few same =
@@ -137,7 +152,7 @@ module _ {bytes : List ℕ} {at count : ℕ} {edges : List ℕ} {m : ℕ} (s : N
     end-named : (x y name : ℕ) → x ≡ y → Named count edges m y name → (x < namesIn last) × (nameIn count last x ≡ name)
     end-named x y name e t = rw (e, number-of) (t .0, table (5 * count + 1 + 256 + 2 * y) (omega arith) ∙ t .1)
 
-    pub prepared : Prepared (graphAt bytes at count) count (set edges₂ 0 m)
+    pub prepared : Prepared (turned turn (graphAt bytes at count)) count (set edges₂ 0 m)
     unfolding last
     prepared =
         record {
@@ -151,7 +166,7 @@ module _ {bytes : List ℕ} {at count : ℕ} {edges : List ℕ} {m : ℕ} (s : N
             linked = linked-same (two .linked) refl (λ e l. place (3 * e + 2) (omega arith) ∙ two .same .tos e l) (omega (arith, number-of, s .few))
                 (λ x l. place (3 * count + 1 + x) (omega arith)) (λ d l. place (3 * d + 3) (omega arith));
           };
-          counted = refl;
+          counted = same-count;
           froms = λ e l. end-named _ _ _ (froms e l) (from-of e l) .1;
           tos = λ e l. end-named _ _ _ (tos e l) (to-of e l) .1;
         }

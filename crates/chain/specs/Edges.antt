@@ -1,5 +1,5 @@
 -- The edges that stand in a bundle's bytes.
-use Prim.Native.Nat.{ℕ, _+_, _*_, _/_, _%_, _≤_}
+use Prim.Native.Nat.{ℕ, zero, suc, _+_, _*_, _/_, _%_, _≤_}
 use mathlib.Core.List.{List}
 use lib.ListN.{length, getD}
 use Rattle.meaning.specs.Chain.{Graph}
@@ -17,6 +17,11 @@ pub record HasEdges (bytes : List ℕ) (at count : ℕ) : Type 0 where
   pub few : count ≤ 1024
   pub lie : at + 6 * count ≤ length bytes
 
--- end i of the edges, two to an edge: the names in order of appearance
-abbrev pub endAt : List ℕ → ℕ → ℕ → ℕ
-endAt bytes at i = nameAt bytes (at + 6 * (i / 2) + 2 * (i % 2) + 1)
+-- the edges as they are, or each the other way round
+abbrev pub turned : ℕ → Graph → Graph
+turned zero g = g
+turned (suc t) g = record { count = g .count; from = g .to; to = g .from }
+
+-- end i of the edges, two to an edge: from before to, or to before from where they are turned
+abbrev pub endAt : List ℕ → ℕ → ℕ → ℕ → ℕ
+endAt bytes at turn i = nameAt bytes (at + 6 * (i / 2) + 2 * ((i + turn) % 2) + 1)

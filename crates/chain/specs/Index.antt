@@ -46,10 +46,10 @@ abbrev pub Named : ℕ → List ℕ → ℕ → ℕ → ℕ → Type 0
 Named count edges m x name = (x < m) × (nameIn count edges x ≡ name)
 
 -- m names are numbered, and the first k ends of the edges have their numbers
-pub record Numbering (bytes : List ℕ) (at k count : ℕ) (edges : List ℕ) (m : ℕ) : Type 0 where
+pub record Numbering (bytes : List ℕ) (at turn k count : ℕ) (edges : List ℕ) (m : ℕ) : Type 0 where
   pub members : Members edges (5 * count + 1) 256 m
   pub few : m ≤ k
-  pub ends : (i : ℕ) → i < k → Named count edges m (endIn edges i) (endAt bytes at i)
+  pub ends : (i : ℕ) → i < k → Named count edges m (endIn edges i) (endAt bytes at turn i)
   pub size : 9 * count + 257 ≤ length edges
 
 -- the ends of the edges and the table of names are the same

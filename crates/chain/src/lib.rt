@@ -1,4 +1,5 @@
-// A bundle's edges, prepared for searches in one slice. Its places follow from the count of the edges:
+// A bundle's edges, prepared for searches in one slice: as they are, for a search backwards, or each turned round, for one forwards. The
+// places of the slice follow from the count of the edges:
 //     0                     how many names the edges have; these are numbered from 0, by first appearance
 //     3 e + 1, + 2, + 3     of edge e: the number that it leads from, the number that it leads to, and the next edge that leads to the same
 //     3 count + 1 + x       of the number x: the first edge that leads to it
@@ -8,7 +9,7 @@ ghost use mathlib.Core.Path.{_≡_};
 ghost use Prim.Native.Nat.{_+_, _*_, _≤_, _<_};
 ghost use lib.ListN.{length};
 ghost use Rattle.table.specs.Table.{grown};
-ghost use Rattle.chain.specs.Edges.{graphAt, HasEdges};
+ghost use Rattle.chain.specs.Edges.{graphAt, turned, HasEdges};
 ghost use Rattle.chain.specs.Index.{Numbering, Same, Cleared, Tied, Linking, Prepared};
 
 // The buckets of the table of names.
@@ -39,17 +40,17 @@ fn grow(n: usize, r: usize) -> usize
 }
 
 // Numbers the names of `count` edges, and writes the numbers of their ends. Returns how many names there are.
-fn number(bytes: &[u8], at: usize, count: usize, edges: &mut [u16]) -> usize
-    requires { ⌜ HasEdges (now bytes) at count ⌝ }
+fn number(bytes: &[u8], at: usize, count: usize, turn: usize, edges: &mut [u16]) -> usize
+    requires { ⌜ HasEdges (now bytes) at count × (turn ≤ 1) ⌝ }
     requires { ⌜ 9 * count + 257 ≤ length (now edges) ⌝ }
-    ensures { λ r. ⌜ Numbering (now (bytes .entry)) at (2 * count) count (now (edges .exit)) r ⌝ }
+    ensures { λ r. ⌜ Numbering (now (bytes .entry)) at turn (2 * count) count (now (edges .exit)) r ⌝ }
 {
     let names = 5 * count + 1;
     table::empty(edges, names, BUCKETS);
     let mut m = 0;
     let mut i = 0;
     while i < 2 * count {
-        let name = bundle::u16_at(bytes, at + 6 * (i / 2) + 2 * (i % 2) + 1);
+        let name = bundle::u16_at(bytes, at + 6 * (i / 2) + 2 * ((i + turn) % 2) + 1);
         let r = table::enter(edges, names, BUCKETS, m, name);
         m = grow(m, r);
         edges[3 * (i / 2) + i % 2 + 1] = r as u16;
@@ -81,13 +82,14 @@ fn link(edges: &mut [u16], count: usize)
     }
 }
 
-// Prepares `count` edges that stand in the bytes from `at` on for searches. What the slice holds before is free.
-pub fn prepare(bytes: &[u8], at: usize, count: usize, edges: &mut [u16])
-    requires { ⌜ HasEdges (now bytes) at count ⌝ }
+// Prepares `count` edges that stand in the bytes from `at` on for searches; where `turn` is 1, each leads the other way round. What the
+// slice holds before is free.
+pub fn prepare(bytes: &[u8], at: usize, count: usize, turn: usize, edges: &mut [u16])
+    requires { ⌜ HasEdges (now bytes) at count × (turn ≤ 1) ⌝ }
     requires { ⌜ 9 * count + 257 ≤ length (now edges) ⌝ }
-    ensures { λ _. ⌜ Prepared (graphAt (now (bytes .entry)) at count) count (now (edges .exit)) ⌝ }
+    ensures { λ _. ⌜ Prepared (turned turn (graphAt (now (bytes .entry)) at count)) count (now (edges .exit)) ⌝ }
 {
-    let m = number(bytes, at, count, edges);
+    let m = number(bytes, at, count, turn, edges);
     clear(edges, count);
     link(edges, count);
     edges[0] = m as u16;

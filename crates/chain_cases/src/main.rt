@@ -1,6 +1,9 @@
 // Runs the chain call on bundles at the limits, and writes what it answers.
 // A line has the number of edges, how far the names on a path stand apart, the two names, the number of places lent, and the
-// answer: `refused` and a number, or how many names the chain has, its first, its last, and what stands behind it.
+// answer: `refused` and a number, or how many names the chain has, of how many names the edges were followed, the chain's first name, its
+// last, and what stands behind it. On a path the names followed are all of the chain but the last; where there is no chain, all from
+// FROM to the end of the path, which is FROM alone where that has no edge.
+use search_from::Listing;
 ghost use lib.ListN.{length};
 ghost use Prim.Native.Nat.{_+_, _*_, _≤_};
 
@@ -58,17 +61,18 @@ fn name_at(list: &[u16], i: usize) -> u16 {
 }
 
 // Writes an answer, and the list that it left.
-fn tell(answer: bundle::Answer, list: &[u16]) {
+fn tell(answer: Listing, list: &[u16]) {
     match answer {
-        bundle::Answer::Accepted(n) => {
+        Listing::Listed(n, followed) => {
             number(n as u64);
+            number(followed as u64);
             number(name_at(list, 0) as u64);
             if n != 0 {
                 number(name_at(list, n - 1) as u64);
             }
             number(name_at(list, n) as u64);
         }
-        bundle::Answer::Refused(k) => {
+        Listing::Refused(k) => {
             io::write_all(1, b"refused ");
             number(k as u64);
             number(name_at(list, 0) as u64);

@@ -44,7 +44,7 @@ fn find_layout_dependency_chain(
     requires { ⌜ GraphOf (now s) layout × EdgesPrepared (now s) layout (now edges) × Lent (layout .edges) (now edges) to (now work) ⌝ }
     ensures { λ r. ⌜ IfWanted wanted (listIn (layout .edges) (now (work .exit))) (λ list. Answers (findLayoutDependencyChain (bundleOf (now (s .entry))) from to) list r) × Lent (layout .edges) (now (edges .entry)) to (now (work .exit)) ⌝ }
 {
-    search::find(edges, layout.edges, from, to, wanted, work)
+    read_chain::find(edges, layout.edges, from, to, wanted, work)
 }
 
 // Type 1, for an enum in the struct `container` that the reference at `path` leads into; `held` is what is kept for the two names.
@@ -113,7 +113,7 @@ pub fn check_enum_tag_layout_cycle(
     let target = sizes::parse_field_reference(s, path, layout.current);
     let container = containers::container_of(s, places, count, known, name, target.name);
     if 1 < container {
-        let list = 6 * layout.edges + 1;
+        let list = 6 * layout.edges + 3;
         return check_enum_forward_reference_in_same_struct(
             s,
             places,

@@ -55,12 +55,12 @@ pub fn put_signed(out: &mut [u8], at: usize, n: i64) -> usize
     put_line(out, next, distance)
 }
 
-// Writes the first n names of a list, each to a line, from the first place of `out` on.
-pub fn write_names(list: &[u16], n: usize, out: &mut [u8]) -> usize
-    requires { ⌜ (n ≤ length (now list)) × (6 * n ≤ length (now out)) ⌝ }
-    ensures { λ r. ⌜ Writes (lines (take n (now (list .entry)))) (now (out .entry)) 0 (now (out .exit)) r ⌝ }
+// Writes the first n names of a list, each to a line.
+pub fn write_names(list: &[u16], n: usize, out: &mut [u8], first: usize) -> usize
+    requires { ⌜ (n ≤ length (now list)) × (first + 6 * n ≤ length (now out)) ⌝ }
+    ensures { λ r. ⌜ Writes (lines (take n (now (list .entry)))) (now (out .entry)) first (now (out .exit)) r ⌝ }
 {
-    let mut at = 0;
+    let mut at = first;
     let mut i = 0;
     while i < n {
         at = put_line(out, at, list[i] as u64);

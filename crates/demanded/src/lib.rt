@@ -1,7 +1,10 @@
 // The calls, with the three demands as their contracts: a demand that is not proved fails this crate.
 use bundle::Answer;
+use search_from::Listing;
 ghost use mathlib.Core.List.{[]};
 ghost use Rattle.bundle.specs.Opened.{answerMeant};
+ghost use Rattle.search_from.specs.Listing as listing;
+ghost use Rattle.demanded.specs.Followed.{FollowedGiven};
 ghost use Rattle.demands.specs.Demands.{Demand1, Nothing, ReportOf, RenumberedOf, ChainOf, Demand3Alike, Demand3Report};
 
 // Whether the bytes are accepted.
@@ -25,9 +28,10 @@ pub fn renumber(bundle: &[u8], out: &mut [u8]) -> Answer
     renumber::renumber(bundle, out)
 }
 
-// The chain from one name to another.
-pub fn find_layout_dependency_chain(bundle: &[u8], from: u16, to: u16, list: &mut [u16]) -> Answer
-    ensures { λ r. ⌜ Demand1 (ChainOf from to) (now (bundle .entry)) (now (list .entry)) (now (list .exit)) (answerMeant r) ⌝ }
+// The chain from one name to another, and the count of the names whose edges the search followed.
+pub fn find_layout_dependency_chain(bundle: &[u8], from: u16, to: u16, list: &mut [u16]) -> Listing
+    ensures { λ r. ⌜ Demand1 (ChainOf from to) (now (bundle .entry)) (now (list .entry)) (now (list .exit)) (listing.answerMeant r) ⌝ }
+    ensures { λ r. ⌜ FollowedGiven from to (now (bundle .entry)) r ⌝ }
 {
     find_chain::find_layout_dependency_chain(bundle, from, to, list)
 }

@@ -41,7 +41,7 @@ pub fn write_report(
     work: &mut [u16],
     out: &mut [u8],
 ) -> Answer
-    requires { ⌜ EdgesPrepared (now s) layout (now edges) × (7 * layout .edges + 5 ≤ length (now work)) ⌝ }
+    requires { ⌜ EdgesPrepared (now s) layout (now edges) × (7 * layout .edges + 7 ≤ length (now work)) ⌝ }
     requires { ⌜ LayoutOf (now s) layout (now places) × (length (violations (bundleOf (now s))) ≤ 65535) × Noted (now s) (now places) (layout .definitions) ⌝ }
     requires { ⌜ Acyclic (now s) × Kept (now s) false (now kept) × Kept (now s) true (now nested) ⌝ }
     ensures { λ r. ⌜ Call (result (report (bundleOf (now (s .entry))))) (now (out .entry)) (now (out .exit)) (answerMeant r) ⌝ }

@@ -1,6 +1,6 @@
 // Reads a bundle from standard input and writes what the program's arguments ask for to standard output: its report, the bundle with
-// its names renumbered, a chain, the size of a definition, or the value of an array's size; for a refused bundle 7E and the number of its
-// refusal. Messages go to standard error, as when one of the two fails.
+// its names renumbered, a chain, also with the count of followed names, the size of a definition, or the value of an array's size; for a
+// refused bundle 7E and the number of its refusal. Messages go to standard error, as when one of the two fails.
 use words::Input;
 use words::Message;
 use words::Order;
@@ -83,12 +83,13 @@ fn write(order: Order, answer: &[u8]) -> bool {
         return io::write_all(
             libc::STDOUT_FILENO,
             b"layout checks a bundle of definitions, read from standard input.\n  \
-              layout                its report\n  \
-              layout renumber       the bundle with its names renumbered\n  \
-              layout chain FROM TO  the names on the chain, one to a line\n  \
-              layout size NUMBER    the size, alignment and field offsets of a definition\n  \
-              layout value NUMBER   the value of the size of a definition that is an array\n  \
-              layout help           this text, as with --help or -h\n\
+              layout                   its report\n  \
+              layout renumber          the bundle with its names renumbered\n  \
+              layout chain FROM TO     the names on the chain, one to a line\n  \
+              layout followed FROM TO  the count of names whose edges were followed, then the chain\n  \
+              layout size NUMBER       the size, alignment and field offsets of a definition\n  \
+              layout value NUMBER      the value of the size of a definition that is an array\n  \
+              layout help              this text, as with --help or -h\n\
               NUMBER, FROM and TO are decimal numbers from 0 to 65535.\n\
               A bundle that is refused gets two bytes: 7E and the number.\n",
         );
@@ -113,7 +114,7 @@ fn say(message: Message) {
         Message::Arguments => {
             io::write_all(
                 err,
-                b"layout: wrong arguments; take none, renumber, chain FROM TO, size NUMBER, value NUMBER (each 0 to 65535) or help\n",
+                b"layout: wrong arguments; take none, renumber, chain FROM TO, followed FROM TO, size NUMBER, value NUMBER (each 0 to 65535) or help\n",
             );
         }
         Message::Unread => {

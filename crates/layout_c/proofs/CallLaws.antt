@@ -2,7 +2,7 @@
 use Prim.Native.Nat.{ℕ, _≤_, _<_}
 use native.Mathlib.Omega.{arith}
 use mathlib.Core.Logic.{_↔_, _⊎_, inl, inr}
-use mathlib.Core.Path.{_≡_, refl, sym, ap, ap₂, subst, _∙_}
+use mathlib.Core.Path.{_≡_, refl, sym, ap, ap₂, subst, subst⁻¹, _∙_}
 use mathlib.Core.List.{List, [], _∷_}
 use lib.IntN.{ℤ}
 use lib.ListN.{length}
@@ -17,6 +17,12 @@ use Rattle.meaning.specs.Violations.{findLayoutDependencyChain}
 use Rattle.meaning.specs.Report.{report}
 use Rattle.meaning.specs.Calls.{Answer, accepted, refusedWith, result, answerOf, Call, onBundle, acceptance}
 use Rattle.meaning.specs.Due.{reporting, renumbering, chainNames, chaining}
+use Rattle.followed.specs.Followed.{following}
+use Rattle.search_from.specs.declared.Listing.{Listing}
+use Rattle.search_from.specs.declared.Listing.the-variants.{Listed, Refused as Unlisted}
+use Rattle.search_from.specs.Listing as listing
+use Rattle.search_from.specs.Listing.{CountIs}
+use Rattle.find_chain.specs.ChainCall.{ChainCall}
 use Rattle.refusals.specs.Numbers.{Keeps}
 use Rattle.refusals.proofs.Unique.{one-to-eight}
 use Rattle.refusals.proofs.Laws.{one-number}
@@ -36,7 +42,7 @@ use Rattle.offsets.specs.declared.Fixed.{Fixed}
 use Rattle.offsets.specs.declared.Fixed.the-variants.{Sized, Refused}
 use Rattle.offsets.specs.Placed as placed
 use Rattle.offsets.specs.Placed.{Extents, FixedCall}
-use Rattle.layout_c.specs.Convention.{codeOf, writtenAfter, sizeAfter, alignmentAfter, CallInC, AcceptInC, FixedInC, codeOfValue, valueAfter, ValueInC}
+use Rattle.layout_c.specs.Convention.{codeOf, writtenAfter, CallInC, AcceptInC, followedAfter, FollowedInC, sizeAfter, alignmentAfter, FixedInC, codeOfValue, valueAfter, ValueInC}
 
 -- the number of an answer whose refusals are 1 to `most`
 module _ (most : ℕ) {r : ℕ} where
@@ -75,10 +81,25 @@ pub renumber-in-c : (s : List ℕ) {before after : List ℕ} {a : Answer} {writt
 unfolding renumbering
 renumber-in-c = in-c (λ b. renumberBytes body (bundleBytes b))
 
-pub chain-in-c : (from to : ℕ) (s : List ℕ) {before after : List ℕ} {a : Answer} {written written′ r : ℕ} → Call (chaining from to s) before after a
-    → written′ ≡ writtenAfter a written → r ≡ codeOf a → CallInC (chaining from to s) before after written written′ r
-unfolding chaining
-chain-in-c from to = in-c (λ b. chainNames (findLayoutDependencyChain b from to))
+-- The answer about a chain.
+module _ {from to : ℕ} {s before after : List ℕ} {a : Listing} {m : Answer} {written written′ r : ℕ} (c : ChainCall from to s before after a) (same : m ≡ listing.answerMeant a) (l : written′ ≡ writtenAfter m written) (e : r ≡ codeOf m) where
+  pub chain-in-c : CallInC (chaining from to s) before after written written′ r
+  unfolding chaining
+  chain-in-c = in-c (λ b. chainNames (findLayoutDependencyChain b from to)) s (subst⁻¹ (λ a. Call (chaining from to s) before after a) same (c .call)) l e
+
+  pub followed-in-c : {followed followed′ : ℕ} → followed′ ≡ followedAfter a followed → FollowedInC from to s before after written written′ followed followed′ r
+  unfolding followedAfter listing.answerMeant codeOf
+  followed-in-c {followed} {followed′} p = record { call = chain-in-c; count = count a refl; stay = stay a refl }
+    where
+      count : (b : Listing) → a ≡ b → r ≡ 0 → following from to s ≡ result (followed′ ∷ [])
+      count (Listed n k) q z = subst (λ a. CountIs (following from to s) a) q (c .count) ∙ ap (λ k. result (k ∷ [])) (sym (p ∙ ap (λ a. followedAfter a followed) q))
+      count (Unlisted k) q z =
+          let y : refusedWith k ≡ accepted _ = sym (ap listing.answerMeant q) ∙ c .call .answer ∙ chain-in-c .zero .0 z .1 in
+          let w : _≡_ {A = ℕ} 0 1 = cc in absurd (omega arith)
+
+      stay : (b : Listing) → a ≡ b → 0 < r → followed′ ≡ followed
+      stay (Listed n k) q z = absurd (omega (arith, e ∙ ap codeOf (same ∙ ap listing.answerMeant q)))
+      stay (Unlisted k) q z = p ∙ ap (λ a. followedAfter a followed) q
 
 pub accept-in-c : (s : List ℕ) → Bytes s → (r : ℕ) → r ≡ codeOf (answerOf (acceptance s) 0) → AcceptInC s r
 unfolding codeOf

@@ -1,4 +1,4 @@
--- How a call answers in C: a number, and by pointer a length, for a fixed size also size and alignment; or a value.
+-- How a call answers in C: a number, and by pointer a length, for a chain also a count, for a fixed size also size and alignment; or a value.
 use Prim.Native.Nat.{ℕ, _≤_, _<_}
 use mathlib.Core.List.{List, [], _∷_}
 use mathlib.Core.Logic.{_↔_, _⊎_}
@@ -7,11 +7,15 @@ use lib.IntN.{ℤ}
 use lib.ListN.{length}
 use Rattle.meaning.specs.Tree.{Bundle}
 use Rattle.meaning.specs.Calls.{Answer, accepted, refusedWith, Outcome, result, answerOf, placesAfter, acceptance}
+use Rattle.meaning.specs.Due.{chaining}
+use Rattle.followed.specs.Followed.{following}
 use Rattle.refusals.specs.Numbers.{Keeps}
 use Rattle.fixed_meaning.specs.Fixed.{sizing, placing}
 use Rattle.fixed_meaning.specs.Value.{Value, valued, unvalued}
 use Rattle.fixed_meaning.specs.Valuing.{valuing}
 use Rattle.value_demand.specs.Demand.{KnownNumber}
+use Rattle.search_from.specs.declared.Listing.{Listing}
+use Rattle.search_from.specs.declared.Listing.the-variants.{Listed, Refused as Unlisted}
 use Rattle.offsets.specs.declared.Fixed.{Fixed}
 use Rattle.offsets.specs.declared.Fixed.the-variants.{Sized, Refused}
 
@@ -40,6 +44,18 @@ pub record AcceptInC (s : List ℕ) (r : ℕ) : Type 0 where
   pub code : r ≡ codeOf (answerOf (acceptance s) 0)
   pub zero : (r ≡ 0) ↔ ((b : Bundle) × Keeps s b)
   pub known : r ≤ 8
+
+-- the count that stands where `followed` points: that of the call on an acceptance, what it was on a refusal
+unfoldable pub followedAfter : Listing → ℕ → ℕ
+followedAfter (Listed n count) followed = count
+followedAfter (Unlisted k) followed = followed
+
+-- The call for a chain of the bytes s that also gives the count of followed names returns r: all is as with every call, and the count
+-- becomes the one due on an acceptance and stays on a refusal.
+pub record FollowedInC (from to : ℕ) (s before after : List ℕ) (written written′ followed followed′ r : ℕ) : Type 0 where
+  pub call : CallInC (chaining from to s) before after written written′ r
+  pub count : r ≡ 0 → following from to s ≡ result (followed′ ∷ [])
+  pub stay : 0 < r → followed′ ≡ followed
 
 -- the size that stands where `size` points: the definition's on an acceptance, what it was on a refusal
 unfoldable pub sizeAfter : Fixed → ℕ → ℕ

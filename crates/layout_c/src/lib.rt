@@ -2,13 +2,15 @@
 // to `written`, which a refusal leaves as it was.
 use bundle::Answer;
 use offsets::Fixed;
+use search_from::Listing;
 use values::Valued;
 ghost use mathlib.Core.Path.{_≡_};
 ghost use Rattle.meaning.specs.Due.{reporting, renumbering, chaining};
 ghost use Rattle.bundle.specs.Opened.{answerMeant};
+ghost use Rattle.search_from.specs.Listing as listing;
 ghost use Rattle.offsets.specs.Placed as placed;
 ghost use Rattle.values.specs.Meant.{valueMeant};
-ghost use Rattle.layout_c.specs.Convention.{codeOf, writtenAfter, sizeAfter, alignmentAfter, CallInC, AcceptInC, FixedInC, codeOfValue, valueAfter, ValueInC};
+ghost use Rattle.layout_c.specs.Convention.{codeOf, writtenAfter, CallInC, AcceptInC, followedAfter, FollowedInC, sizeAfter, alignmentAfter, FixedInC, codeOfValue, valueAfter, ValueInC};
 
 // The number for an answer.
 fn code(answer: Answer) -> u8
@@ -58,6 +60,26 @@ pub extern "C" fn layout_renumber(bundle: &[u8], out: &mut [u8], written: &mut u
     code(answer)
 }
 
+// The answer about a chain, without the count.
+fn chain_answer(answer: Listing) -> Answer
+    ensures { λ r. ⌜ answerMeant r ≡ listing.answerMeant answer ⌝ }
+{
+    match answer {
+        Listing::Listed(n, _) => Answer::Accepted(n),
+        Listing::Refused(k) => Answer::Refused(k),
+    }
+}
+
+// The count of followed names that goes out for it, where `followed` stood.
+fn followed_out(answer: Listing, followed: usize) -> usize
+    ensures { λ r. ⌜ r ≡ followedAfter answer followed ⌝ }
+{
+    match answer {
+        Listing::Listed(_, count) => count,
+        Listing::Refused(_) => followed,
+    }
+}
+
 // The chain from one name to another, into the first places of `list`.
 #[no_mangle]
 pub extern "C" fn layout_chain(
@@ -69,7 +91,27 @@ pub extern "C" fn layout_chain(
 ) -> u8
     ensures { λ r. ⌜ CallInC (chaining from to (now (bundle .entry))) (now (list .entry)) (now (list .exit)) (now (written .entry)) (now (written .exit)) r ⌝ }
 {
-    let answer = find_chain::find_layout_dependency_chain(bundle, from, to, list);
+    let answer = chain_answer(find_chain::find_layout_dependency_chain(bundle, from, to, list));
+    *written = length_out(answer, *written);
+    code(answer)
+}
+
+// The same, with the count of the names whose edges the search followed.
+#[no_mangle]
+pub extern "C" fn layout_chain_followed(
+    bundle: &[u8],
+    from: u16,
+    to: u16,
+    list: &mut [u16],
+    written: &mut usize,
+    followed: &mut usize,
+) -> u8
+    ensures { λ r. ⌜ FollowedInC from to (now (bundle .entry)) (now (list .entry)) (now (list .exit)) (now (written .entry)) (now (written .exit))
+        (now (followed .entry)) (now (followed .exit)) r ⌝ }
+{
+    let listing = find_chain::find_layout_dependency_chain(bundle, from, to, list);
+    *followed = followed_out(listing, *followed);
+    let answer = chain_answer(listing);
     *written = length_out(answer, *written);
     code(answer)
 }

@@ -90,7 +90,7 @@ module _ (g : Graph) where
       go none q = refl
       go (some ds) q = absurd (f ds (firstWalk-some a b ds q .walk))
 
-  reaches-walk : {a b : ℕ} → Reaches g a b → (es : List ℕ) × IsWalk g a es b
+  pub reaches-walk : {a b : ℕ} → Reaches g a b → (es : List ℕ) × IsWalk g a es b
   reaches-walk here = ([], refl)
   reaches-walk (along e l p) = let w = reaches-walk p in (e ∷ w .0, (l, refl, w .1))
 

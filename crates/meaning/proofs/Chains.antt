@@ -34,7 +34,7 @@ module _ (f : ℕ → ℕ) (keeps : (m n : ℕ) → eqb (f m) (f n) ≡ eqb m n)
           ap₂ (λ t o. onlyIf t (Option·map (λ es. e ∷ es) o)) (ap (λ x. eqb x (f a)) (R .from e l) ∙ keeps (g .from e) a)
           (ap (λ x. walkOf g′ n x (f c)) (R .to e l) ∙ ih (g .to e))
 
-  firstWalk-map : (a c : ℕ) → firstWalk g′ (f a) (f c) ≡ firstWalk g a c
+  pub firstWalk-map : (a c : ℕ) → firstWalk g′ (f a) (f c) ≡ firstWalk g a c
   unfolding firstWalk
   firstWalk-map a c = ap (λ k. firstOf (λ n. walkOf g′ n (f a) (f c)) (suc k)) (R .count) ∙ firstOf-same _ _ (suc (g .count)) (λ n l. walkOf-map n a c)
 

@@ -87,13 +87,13 @@ occurs b n m = go (find n (bundleNames b))
 
 -- 2. An exchange, as a map of all numbers.
 
-abbrev extend : Exchange → ℕ → ℕ
+abbrev pub extend : Exchange → ℕ → ℕ
 extend f n = cond (ltb n nameCount) (f .to n) n
 
-extend-name : (f : Exchange) (n : ℕ) → n < nameCount → extend f n ≡ f .to n
+pub extend-name : (f : Exchange) (n : ℕ) → n < nameCount → extend f n ≡ f .to n
 extend-name f n h = rw (lt-ltb n nameCount h)
 
-extend-injective : (f : Exchange) → Injective (extend f)
+pub extend-injective : (f : Exchange) → Injective (extend f)
 extend-injective f m n e = go (ltb m nameCount) refl (ltb n nameCount) refl e
   where
     go : (s : Bool) → ltb m nameCount ≡ s → (t : Bool) → ltb n nameCount ≡ t → cond s (f .to m) m ≡ cond t (f .to n) n → m ≡ n

@@ -32,7 +32,7 @@ Injective f = (m n : ℕ) → f m ≡ f n → m ≡ n
 module _ (f : ℕ → ℕ) (inj : Injective f) where
   -- Numbers and lists.
 
-  eqb-map : (m n : ℕ) → eqb (f m) (f n) ≡ eqb m n
+  pub eqb-map : (m n : ℕ) → eqb (f m) (f n) ≡ eqb m n
   eqb-map m n = go (eqb m n) refl
     where
       go : (t : Bool) → eqb m n ≡ t → eqb (f m) (f n) ≡ t
@@ -166,7 +166,7 @@ module _ (f : ℕ → ℕ) (inj : Injective f) where
         ap (λ ns. getD ns e 0) (map-map end (mapEdge f) (b .edges) ∙ ap (λ g. map g (b .edges)) (fun-ext each) ∙ sym (map-map f end (b .edges)))
         ∙ getD-map (map end (b .edges)) e (rw length-map l)
 
-    graph-map : Renamed f (graph b) (graph b′)
+    pub graph-map : Renamed f (graph b) (graph b′)
     graph-map = record {
       count = length-map (b .edges) (mapEdge f);
       from = ends-map (λ x. x .from) (λ x. refl);

@@ -24,13 +24,13 @@ earlier-irrefl [] p = p
 earlier-irrefl (a ∷ u) (inl p) = omega arith
 earlier-irrefl (a ∷ u) (inr p) = earlier-irrefl u (p .1)
 
-before-trans : {u v w : List ℕ} → Before u v → Before v w → Before u w
+pub before-trans : {u v w : List ℕ} → Before u v → Before v w → Before u w
 before-trans (fewer p) (fewer q) = fewer (omega arith)
 before-trans (fewer p) (earlier l q) = fewer (omega arith)
 before-trans (earlier k p) (fewer q) = fewer (omega arith)
 before-trans {u} {v} {w} (earlier k p) (earlier l q) = earlier (k ∙ l) (earlier-trans u v w p q)
 
-before-irrefl : {u : List ℕ} → Before u u → ⊥
+pub before-irrefl : {u : List ℕ} → Before u u → ⊥
 before-irrefl (fewer p) = omega arith
 before-irrefl {u} (earlier l p) = earlier-irrefl u p
 

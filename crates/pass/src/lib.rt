@@ -27,10 +27,10 @@ fn validate_struct(
     position: Position,
 ) -> Position
     requires { ⌜ LayoutOf (now s) layout (now places) × Among (now s) subject × Noted (now s) (now places) (layout .definitions) ⌝ }
-    requires { ⌜ (7 * layout .edges + 5 ≤ length (now work)) × StructAt 24 (now s) (subject .at) count × Room position (violationsOf (now s) subject) ⌝ }
+    requires { ⌜ (7 * layout .edges + 7 ≤ length (now work)) × StructAt 24 (now s) (subject .at) count × Room position (violationsOf (now s) subject) ⌝ }
     ensures { λ r. ⌜ Wrote (violationsOf (now (s .entry)) subject) (now (out .entry)) position (now (out .exit)) r ⌝ }
 {
-    let list = 6 * layout.edges + 1;
+    let list = 6 * layout.edges + 3;
     validators::validate_struct_field_constraints(
         s,
         places,
@@ -56,7 +56,7 @@ fn validate_type(
     out: &mut [u8],
     position: Position,
 ) -> Position
-    requires { ⌜ EdgesPrepared (now s) layout (now edges) × (7 * layout .edges + 5 ≤ length (now work)) ⌝ }
+    requires { ⌜ EdgesPrepared (now s) layout (now edges) × (7 * layout .edges + 7 ≤ length (now work)) ⌝ }
     requires { ⌜ LayoutOf (now s) layout (now places) × (i < layout .definitions) × Room position (violationsAt (now s) (now places) i) × Noted (now s) (now places) (layout .definitions) ⌝ }
     requires { ⌜ Acyclic (now s) × Kept (now s) false (now kept) × Kept (now s) true (now nested) ⌝ }
     ensures { λ r. ⌜ Wrote (violationsAt (now (s .entry)) (now (places .entry)) i) (now (out .entry)) position (now (out .exit)) r × Kept (now (s .entry)) false (now (kept .exit)) × Kept (now (s .entry)) true (now (nested .exit)) ⌝ }
@@ -110,7 +110,7 @@ pub fn validate_layout_constraints(
     out: &mut [u8],
     position: Position,
 ) -> Position
-    requires { ⌜ EdgesPrepared (now s) layout (now edges) × (7 * layout .edges + 5 ≤ length (now work)) ⌝ }
+    requires { ⌜ EdgesPrepared (now s) layout (now edges) × (7 * layout .edges + 7 ≤ length (now work)) ⌝ }
     requires { ⌜ LayoutOf (now s) layout (now places) × Room position (violations (bundleOf (now s))) × Noted (now s) (now places) (layout .definitions) ⌝ }
     requires { ⌜ Acyclic (now s) × Kept (now s) false (now kept) × Kept (now s) true (now nested) ⌝ }
     ensures { λ r. ⌜ Wrote (violations (bundleOf (now (s .entry)))) (now (out .entry)) position (now (out .exit)) r × Kept (now (s .entry)) false (now (kept .exit)) × Kept (now (s .entry)) true (now (nested .exit)) ⌝ }

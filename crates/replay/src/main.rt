@@ -1,7 +1,9 @@
-// Replays stored cases: runs the report, the renumbering, the fixed size or the value on each bundle and compares with the stored answer.
+// Replays stored cases: runs the report, the renumbering, the fixed size, the value or the chain with its count on each bundle and compares
+// with the stored answer.
 use libc::STDIN_FILENO;
 use libc::STDOUT_FILENO;
 use offsets::Fixed;
+use search_from::Listing;
 use values::Valued;
 ghost use Prim.Native.Nat.{_<_};
 
@@ -17,6 +19,11 @@ fn wide(byte: u8) -> usize
     ensures { λ r. ⌜ r < 256 ⌝ }
 {
     byte as usize
+}
+
+// The name in two bytes.
+fn name(low: u8, high: u8) -> u16 {
+    low as u16 + 256 * high as u16
 }
 
 // The number in two bytes.
@@ -64,6 +71,21 @@ fn valued(bundle: &[u8], definition: usize, due: &[u8], m: usize) -> bool {
     }
 }
 
+// The same for the count of followed names and the chain between two names, which stand in two bytes each before the bundle.
+fn followed(asked: &[u8], due: &[u8], m: usize) -> bool {
+    if asked.len() < 4 {
+        return false;
+    }
+    let from = name(asked[0], asked[1]);
+    let to = name(asked[2], asked[3]);
+    let mut list = [0u16; bundle::CHAIN_LIMIT];
+    let answer = find_chain::find_layout_dependency_chain(&asked[4..], from, to, &mut list);
+    match answer {
+        Listing::Listed(n, count) => stored::chain_is(count as u64, &list, n, due, m),
+        Listing::Refused(number) => stored::is_refusal(number, due, m),
+    }
+}
+
 // The same for a definition whose number stands in two bytes before the bundle.
 fn named(kind: u8, asked: &[u8], due: &[u8], m: usize) -> bool {
     if asked.len() < 2 {
@@ -91,11 +113,14 @@ fn answered(kind: u8, space: &[u8], n: usize, due: &[u8], m: usize) -> bool {
     if kind == 1 {
         return renumbered(asked, due, m);
     }
+    if kind == 4 {
+        return followed(asked, due, m);
+    }
     named(kind, asked, due, m)
 }
 
-// What a case starts with: 0 for a report, 1 for a renumbering, 2 for a fixed size or 3 for a value, and the lengths of what is asked and of
-// the answer.
+// What a case starts with: 0 for a report, 1 for a renumbering, 2 for a fixed size, 3 for a value or 4 for a count with its chain, and the
+// lengths of what is asked and of the answer.
 pub enum Head {
     Case(u8, usize, usize),
     End,
@@ -149,10 +174,10 @@ fn print(tally: Tally) {
     io::write_all(STDOUT_FILENO, b" others\n");
 }
 
-// The cases up to the last, but no more than 4,000.
+// The cases up to the last, but no more than 5,000.
 fn run_cases() -> Tally {
     let mut tally = Tally { same: 0, other: 0 };
-    let mut left: usize = 4000;
+    let mut left: usize = 5000;
     while 0 < left {
         let head = read_head();
         let Head::Case(kind, n, m) = head else {

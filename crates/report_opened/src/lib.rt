@@ -21,13 +21,13 @@ fn report_with(
     work: &mut [u16],
     out: &mut [u8],
 ) -> Answer
-    requires { ⌜ (9 * layout .edges + 257 ≤ length (now edges)) × (7 * layout .edges + 5 ≤ length (now work)) ⌝ }
+    requires { ⌜ (9 * layout .edges + 257 ≤ length (now edges)) × (7 * layout .edges + 7 ≤ length (now work)) ⌝ }
     requires { ⌜ LayoutOf (now s) layout (now places) × (circles (bundleOf (now s)) ≡ false) × Noted (now s) (now places) (layout .definitions) ⌝ }
     ensures { λ r. ⌜ Call (result (report (bundleOf (now (s .entry))))) (now (out .entry)) (now (out .exit)) (answerMeant r) ⌝ }
 {
     let mut kept = [0u8; bundle::DEFINITIONS];
     let mut nested = [0u8; bundle::DEFINITIONS];
-    chain::prepare(s, layout.edges_at, layout.edges, edges);
+    chain::prepare(s, layout.edges_at, layout.edges, 0, edges);
     draft::write_report(s, places, layout, &mut kept, &mut nested, edges, work, out)
 }
 

@@ -4,7 +4,7 @@ use native.Mathlib.Omega.{arith}
 use mathlib.Core.Bool.{Bool, true, false, cond}
 use mathlib.Core.List.{List, [], _∷_, _++_}
 use mathlib.Core.Option.{Option, none, some}
-use mathlib.Core.Path.{_≡_, refl, sym, ap, subst, _∙_}
+use mathlib.Core.Path.{_≡_, refl, sym, ap, subst, subst⁻¹, _∙_}
 use lib.ListN.{length, take, set, length-append, length-take}
 use lib.Seq.{length-take-le, take-append-le}
 use lib.IntN.{ℤ}
@@ -28,6 +28,12 @@ use Rattle.meaning.proofs.ReadWithin.{bundle-within}
 use Rattle.bundle.specs.declared.Answer as code
 use Rattle.bundle.specs.declared.Answer.the-variants.{Accepted, Refused}
 use Rattle.bundle.specs.Opened.{answerMeant}
+use Rattle.search_from.specs.declared.Listing.{Listing}
+use Rattle.search_from.specs.declared.Listing.the-variants as listing
+use Rattle.search_from.specs.declared.Listing.the-variants.{Listed}
+use Rattle.search_from.specs.Listing.{answerMeant as listingMeant, CountIs}
+use Rattle.find_chain.specs.ChainCall.{ChainCall}
+use Rattle.followed.specs.Followed.{following}
 use Rattle.fixed_meaning.specs.Fixed.{sizing, placing}
 use Rattle.fixed_meaning.specs.Value as meaning
 use Rattle.values.specs.declared.Valued.{Valued}
@@ -37,7 +43,7 @@ use Rattle.offsets.specs.declared.Fixed.{Fixed}
 use Rattle.offsets.specs.declared.Fixed.the-variants as fixed
 use Rattle.offsets.specs.declared.Fixed.the-variants.{Sized}
 use Rattle.offsets.specs.Placed.{answerMeant as fixedMeant, Extents, FixedCall}
-use Rattle.responses.specs.Response.{refusalBytes, written, responseTo, linesTo, numbersOf, linesOf, sizeTo, valueTo, Holds}
+use Rattle.responses.specs.Response.{refusalBytes, written, responseTo, numbersOf, countFor, linesTo, linesOf, sizeTo, valueTo, Holds}
 
 -- what an acceptance leaves in the places
 module _ (o : Outcome) {before after : List ℕ} {a : Answer} {n : ℕ} (c : Call o before after a) (e : a ≡ accepted n) where
@@ -54,9 +60,12 @@ module _ (o : Outcome) {before after : List ℕ} {a : Answer} {n : ℕ} (c : Cal
       let answered : answerOf o (length before) ≡ accepted n = sym (c .answer) ∙ e in
       record { within = accepted-within; first = f .first ∙ sym (ap (λ a. written a o) answered ∙ ap (written (accepted n)) (f .outcome)) }
 
-  pub lists : {out out′ : List ℕ} {r : ℕ} → Writes (lines (take n after)) out 0 out′ r → Holds (linesTo o) out′ r
+  pub lists : (count : List ℕ) {o₀ o₁ o₂ : List ℕ} {p r : ℕ} → Writes (lines count) o₀ 0 o₁ p → Writes (lines (take n after)) o₁ p o₂ r → Holds (linesTo count o) o₂ r
   unfolding linesTo
-  lists w = let f = filled in record { within = w .room; first = w .places ∙ ap lines (f .first) ∙ sym (ap linesTo (f .outcome)) }
+  lists count w u =
+      let f = filled in
+      let joined = writes-then w u .places ∙ sym (lines-append count (take n after)) in
+      record { within = u .room; first = joined ∙ ap (λ xs. lines (count ++ xs)) (f .first) ∙ sym (ap (linesTo count) (f .outcome)) }
 
 -- a refusal that was written
 pub holds-refusal : (out : List ℕ) (k : ℕ) → 2 ≤ length out → Holds (refusalBytes k) (set (set out 0 0x7E) 1 k) 2
@@ -95,6 +104,22 @@ module _ {a : code.Answer} where
   pub refusing : {k : ℕ} → a ≡ Refused k → answerMeant a ≡ refusedWith k
   unfolding answerMeant
   refusing e = ap answerMeant e
+
+-- a chain and its count, as they are answered
+module _ {from to : ℕ} {s before after : List ℕ} {a : Listing} (c : ChainCall from to s before after a) where
+  module _ {n k : ℕ} (e : a ≡ Listed n k) where
+    listed : listingMeant a ≡ accepted n
+    unfolding listingMeant
+    listed = ap listingMeant e
+
+    pub chain-within : n ≤ length after
+    chain-within = accepted-within _ (c .call) listed
+
+    -- and written
+    pub chains : (counted : Bool) {o₀ o₁ o₂ : List ℕ} {p r : ℕ} → Writes (lines (countFor counted (result (k ∷ [])))) o₀ 0 o₁ p → Writes (lines (take n after)) o₁ p o₂ r
+        → Holds (linesTo (countFor counted (following from to s)) (chaining from to s)) o₂ r
+    chains counted {o₂ = o₂} {r = r} w u =
+        subst⁻¹ (λ o. Holds (linesTo (countFor counted o) (chaining from to s)) o₂ r) (subst (λ a. CountIs (following from to s) a) e (c .count)) (lists _ (c .call) listed _ w u)
 
 -- a definition's size, as it is answered and written
 module _ {i lent : ℕ} {s before after : List ℕ} {f : Fixed} (c : FixedCall i s before after f) (room : length before ≡ lent) where
@@ -153,12 +178,12 @@ chain-fits from to s bytes names = go (readBundle s) refl
     go (refused k) e p = let z : _≡_ {A = ℕ} 0 1 = cc in absurd (omega arith)
 
 -- so a chain is refused only where the bundle is
-pub chain-refuses : (from to : ℕ) (s : List ℕ) → Bytes s → {list list′ out : List ℕ} {a : Answer} {k r : ℕ} → Call (chaining from to s) list list′ a
-    → 1025 ≤ length list → a ≡ refusedWith k → Holds (refusalBytes k) out r → Holds (linesTo (chaining from to s)) out r
-unfolding linesTo answerOf
-chain-refuses from to s bytes {list} {out = out} {k = k} {r} c room e w = go (chaining from to s) refl (sym e ∙ c .answer)
+pub chain-refuses : {from to : ℕ} {s : List ℕ} → Bytes s → (count : List ℕ) {list list′ out : List ℕ} {a : Listing} {k r : ℕ} → ChainCall from to s list list′ a
+    → 1025 ≤ length list → a ≡ listing.Refused k → Holds (refusalBytes k) out r → Holds (linesTo count (chaining from to s)) out r
+unfolding linesTo answerOf listingMeant
+chain-refuses {from} {to} {s} bytes count {list} {out = out} {k = k} {r} c room e w = go (chaining from to s) refl (sym (ap listingMeant e) ∙ c .call .answer)
   where
-    go : (o : Outcome) → chaining from to s ≡ o → refusedWith k ≡ answerOf o (length list) → Holds (linesTo o) out r
+    go : (o : Outcome) → chaining from to s ≡ o → refusedWith k ≡ answerOf o (length list) → Holds (linesTo count o) out r
     go (result names) e p =
         let fits = chain-fits from to s bytes names e in
         let q = answer-fits names (length list) (omega arith) in

@@ -1,18 +1,21 @@
-// What the program writes to standard output for each order: a report, a renumbered bundle, a chain, the size of a definition, or the
-// value of an array's size; for a refused bundle 7E and the number of its refusal.
+// What the program writes to standard output for each order: a report, a renumbered bundle, a chain, also with the count of followed
+// names, the size of a definition, or the value of an array's size; for a refused bundle 7E and the number of its refusal.
 use bundle::Answer;
 use offsets::Fixed;
+use search_from::Listing;
 use values::Valued;
 use words::Order;
-ghost use mathlib.Core.List.{List};
+ghost use mathlib.Core.List.{List, [], _∷_};
 ghost use Prim.Native.Nat.{ℕ, _≤_};
 ghost use lib.ListN.{length};
-ghost use Rattle.meaning.specs.Calls.{Outcome, Call};
+ghost use Rattle.meaning.specs.Calls.{Outcome, result, Call};
 ghost use Rattle.meaning.specs.Due.{reporting, renumbering, chaining};
+ghost use Rattle.decimal.specs.Decimal.{lines, Writes};
+ghost use Rattle.followed.specs.Followed.{following};
 ghost use Rattle.fixed_meaning.specs.Fixed.{sizing, placing};
 ghost use Rattle.fixed_meaning.specs.Valuing.{valuing};
 ghost use Rattle.bundle.specs.Opened.{answerMeant};
-ghost use Rattle.responses.specs.Response.{refusalBytes, responseTo, linesTo, sizeTo, valueTo, answerTo, Holds};
+ghost use Rattle.responses.specs.Response.{refusalBytes, responseTo, countFor, linesTo, sizeTo, valueTo, answerTo, Holds};
 
 // Room for a report or a renumbered bundle: a longer one is refused with 9.
 const REPORT_ROOM: usize = 65536;
@@ -64,16 +67,30 @@ fn respond_renumbered(bundle: &[u8], out: &mut [u8]) -> usize
     finish(answer, room)
 }
 
-// The names of the chain, each to a line.
-fn respond_chain(bundle: &[u8], from: u16, to: u16, out: &mut [u8]) -> usize
-    requires { ⌜ 6150 ≤ length (now out) ⌝ }
-    ensures { λ r. ⌜ Holds (linesTo (chaining from to (now (bundle .entry)))) (now (out .exit)) r ⌝ }
+// Puts the count of followed names onto a line, if it is asked for.
+fn put_count(counted: bool, followed: usize, out: &mut [u8]) -> usize
+    requires { ⌜ 21 ≤ length (now out) ⌝ }
+    ensures { λ r. ⌜ Writes (lines (countFor counted (result (followed ∷ [])))) (now (out .entry)) 0 (now (out .exit)) r × (r ≤ 21) ⌝ }
+{
+    if counted {
+        return decimal::put_line(out, 0, followed as u64);
+    }
+    0
+}
+
+// The names of the chain, each to a line, behind the count of followed names if it is asked for.
+fn respond_chain(bundle: &[u8], from: u16, to: u16, counted: bool, out: &mut [u8]) -> usize
+    requires { ⌜ 6171 ≤ length (now out) ⌝ }
+    ensures { λ r. ⌜ Holds (linesTo (countFor counted (following from to (now (bundle .entry)))) (chaining from to (now (bundle .entry)))) (now (out .exit)) r ⌝ }
 {
     let mut list = [0u16; bundle::CHAIN_LIMIT];
     let answer = find_chain::find_layout_dependency_chain(bundle, from, to, &mut list);
     match answer {
-        Answer::Accepted(n) => decimal::write_names(&list, n, out),
-        Answer::Refused(k) => put_refusal(k, out),
+        Listing::Listed(n, followed) => {
+            let first = put_count(counted, followed, out);
+            decimal::write_names(&list, n, out, first)
+        }
+        Listing::Refused(k) => put_refusal(k, out),
     }
 }
 
@@ -114,7 +131,8 @@ pub fn answer(order: Order, bundle: &[u8], out: &mut [u8]) -> usize
     match order {
         Order::Report => respond(bundle, out),
         Order::Renumber => respond_renumbered(bundle, out),
-        Order::Chain(from, to) => respond_chain(bundle, from, to, out),
+        Order::Chain(from, to) => respond_chain(bundle, from, to, false, out),
+        Order::Followed(from, to) => respond_chain(bundle, from, to, true, out),
         Order::Size(definition) => respond_size(bundle, definition, out),
         Order::Value(definition) => respond_value(bundle, definition, out),
         Order::Help => 0,

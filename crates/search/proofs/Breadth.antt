@@ -5,7 +5,9 @@
 --     seeking-known          edge e to entry h leads from a number that is reached
 --     seeking-skip           on to the next edge that leads to entry h
 --     seeking-next           on to the next entry
---     seeking-end            every entry is followed
+--     seeking-back           back to the first edge to entry h
+--     seeking-same           it hangs on how far each number is, and on the entries
+--     seeking-far, -none     how far what is marked is; where every entry is followed, no walk leads from what is not
 use Prim.Native.Nat.{ℕ, suc, _+_, _≤_, _<_}
 use mathlib.Core.Path.{_≡_, refl, sym, ap, _∙_, subst}
 use mathlib.Core.Logic.{_⊎_, inl, inr, ⊎-elim, by-cases}
@@ -18,7 +20,14 @@ use lib.Dec.{eqb}
 use lib.ListN.{length}
 use Rattle.meaning.specs.Chain.{Graph, IsWalk}
 use Rattle.meaning.proofs.Pigeonhole.{pigeonhole}
-use Rattle.search.specs.Seeking.{Passed, Off, Seeking, Pushed, Far}
+use Rattle.search.specs.Seeking.{Passed, Off, Seeking, Pushed}
+
+-- how far each of m numbers is from b, of those that are marked: the nearest are
+pub record Far (g : Graph) (b m : ℕ) (far : ℕ → ℕ) : Type 0 where
+  pub walks : (x : ℕ) → x < m → 0 < far x → Off g b x (far x)
+  pub small : (x : ℕ) → x < m → far x ≤ m
+  pub least : (x : ℕ) → x < m → 0 < far x → (es : List ℕ) → IsWalk g x es b → far x ≤ length es + 1
+  pub nearest : (x y : ℕ) → x < m → y < m → (es : List ℕ) → IsWalk g x es b → length es + 1 < far y → 0 < far x
 
 -- one more number: it is below n, or n
 below-one-more : {i n : ℕ} → i < n + 1 → (i < n) ⊎ (i ≡ n)
@@ -30,7 +39,7 @@ module _ {g : Graph} {b m : ℕ} where
   seeking-start {far} {queue} {far′} {queue′} ends l cleared p =
       record {
         ends = ends;
-        target = p .here;
+        target = (l, p .here);
         walks = λ x a q. let e = only x a q in ([], e, rw (e, p .here));
         inside = λ i a. rw (root i a) l;
         apart = λ i j u v _. omega arith;
@@ -96,7 +105,7 @@ module _ {g : Graph} {b m : ℕ} where
         seeking-push =
             record {
               ends = s .ends;
-              target = kept b (omega (arith, s .target)) ∙ s .target;
+              target = (s .target .0, kept b (omega (arith, s .target .1)) ∙ s .target .1);
               walks = walks;
               inside = λ i a. ⊎-elim (λ (q : i < n). rw (p .before i q) (s .inside i q)) (λ (q : i ≡ n). rw (q, p .last) small) (below-one-more a);
               apart = apart;
@@ -201,23 +210,80 @@ module _ {g : Graph} {b m : ℕ} where
             s .covered j d a c q (⊎-elim (λ (w : j < h). inl w) (λ (w : j ≡ h). inr (w, omega arith)) (below-one-more z)))
             (λ (z : (j ≡ h + 1) × (d < 0)). absurd (omega (arith, z .1)))
 
-    pub seeking-end : n ≤ h → Far g b m far
-    seeking-end all = record { walks = s .walks; small = small; least = least }
+    pub seeking-back : Seeking g b m far queue n h 0
+    seeking-back = moved (s .near) covered (s .head)
       where
-        small : (x : ℕ) → x < m → far x ≤ m
-        small x a =
-            by-cases (decLt 0 (far x))
-            (λ (l : 0 < far x).
-            let t = s .entered x a l in
-            omega (arith, s .reached (t .0) (t .1) .1, ap far (t .2), t .1, pigeonhole n m queue (s .inside) (s .apart)))
-            (λ (l : ¬ (0 < far x)). omega arith)
+        covered : Covers h 0
+        covered j d a c q =
+            ⊎-elim (λ (z : j < h). s .covered j d a c q (inl z)) (λ (z : (j ≡ h) × (d < 0)). absurd (omega (arith, z .1)))
 
-        least : (x : ℕ) → x < m → (es : List ℕ) → IsWalk g x es b → (0 < far x) × (far x ≤ length es + 1)
-        least x a [] w = (omega (arith, ap far w, s .target), omega (arith, ap far w, s .target))
-        least x a (d ∷ es) w =
-            let k = s .ends d (w .0) in
-            let r = least (g .to d) (k .1) es (w .2) in
-            let t = s .entered (g .to d) (k .1) (r .0) in
-            let c = s .covered (t .0) d (t .1) (w .0) (sym (t .2)) (inl (omega (arith, t .1))) in
-            let is : far (queue (t .0)) ≡ far (g .to d) = ap far (t .2) in
-            subst (λ (y : ℕ). (0 < far y) × (far y ≤ suc (length es) + 1)) (w .1) (c .0, omega (arith, c .1, r .1))
+    pub seeking-few : n ≤ m
+    seeking-few = pigeonhole n m queue (s .inside) (s .apart)
+
+    pub seeking-same : {far′ queue′ : ℕ → ℕ} → ((x : ℕ) → x < m → far′ x ≡ far x) → ((i : ℕ) → i < m → queue′ i ≡ queue i) → Seeking g b m far′ queue′ n h e
+    seeking-same {far′} {queue′} same entries =
+        record {
+          ends = s .ends;
+          target = (s .target .0, same b (s .target .0) ∙ s .target .1);
+          walks = λ x a. subst (λ (k : ℕ). 0 < k → Off g b x k) (sym (same x a)) (s .walks x a);
+          inside = λ i a. rw (at i a) (s .inside i a);
+          apart = λ i j a c q. s .apart i j a c (sym (at i (omega arith)) ∙ q ∙ at j c);
+          reached = λ i a. rw (off i a) (s .reached i a);
+          rising = λ i j a c. rw (off i (omega arith), off j c) (s .rising i j a c);
+          near = λ k i a. rw (off i a, off h k) (s .near k i a);
+          entered = λ x a q. let t = s .entered x a (omega (arith, same x a)) in (t .0, t .1, at (t .0) (t .1) ∙ t .2);
+          covered = λ j d a c q z. rw (same (g .from d) (s .ends d c .0), off j a) (s .covered j d a c (q ∙ at j a) z);
+          head = s .head;
+        }
+      where
+        at : (i : ℕ) → i < n → queue′ i ≡ queue i
+        at i a = entries i (omega (arith, seeking-few))
+
+        off : (i : ℕ) → i < n → far′ (queue′ i) ≡ far (queue i)
+        off i a = ap far′ (at i a) ∙ same (queue i) (s .inside i a)
+
+    -- a walk from x: x is marked, and near enough; or the walk leads through an entry that is not followed, and so it is long
+    left : (x : ℕ) → x < m → (es : List ℕ) → IsWalk g x es b → ((0 < far x) × (far x ≤ length es + 1)) ⊎ ((h < n) × (far (queue h) ≤ length es))
+    left x a [] w = inl (omega (arith, ap far w, s .target .1), omega (arith, ap far w, s .target .1))
+    left x a (d ∷ es) w =
+        let k = s .ends d (w .0) in
+        ⊎-elim (λ (r : (0 < far (g .to d)) × (far (g .to d) ≤ length es + 1)).
+        let t = s .entered (g .to d) (k .1) (r .0) in
+        let is : far (queue (t .0)) ≡ far (g .to d) = ap far (t .2) in
+        by-cases (decLt (t .0) h)
+        (λ (l : t .0 < h).
+        let c = s .covered (t .0) d (t .1) (w .0) (sym (t .2)) (inl l) in
+        inl (subst (λ (y : ℕ). (0 < far y) × (far y ≤ suc (length es) + 1)) (w .1) (c .0, omega (arith, c .1, r .1))))
+        (λ (l : ¬ (t .0 < h)). inr (omega (arith, t .1), omega (arith, first (t .0) (omega arith) (t .1), r .1))))
+        (λ (r : (h < n) × (far (queue h) ≤ length es)). inr (r .0, omega (arith, r .1)))
+        (left (g .to d) (k .1) es (w .2))
+      where
+        first : (i : ℕ) → h ≤ i → i < n → far (queue h) ≤ far (queue i)
+        first i p q = by-cases (ℕ-discrete h i) (λ (e : h ≡ i). rw e (omega arith)) (λ (e : ¬ (h ≡ i)). s .rising h i (omega arith) q)
+
+    -- nothing is marked that is farther off than one edge from the entry that is next
+    marked-near : h < n → (x : ℕ) → x < m → far x ≤ far (queue h) + 1
+    marked-near l x a =
+        by-cases (decLt 0 (far x)) (λ (p : 0 < far x). let t = s .entered x a p in omega (arith, s .near l (t .0) (t .1), ap far (t .2)))
+        (λ (p : ¬ (0 < far x)). omega arith)
+
+    pub seeking-far : Far g b m far
+    seeking-far =
+        record {
+          walks = s .walks;
+          small = λ x a.
+              by-cases (decLt 0 (far x))
+              (λ (l : 0 < far x). let t = s .entered x a l in omega (arith, s .reached (t .0) (t .1) .1, ap far (t .2), t .1, seeking-few))
+              (λ (l : ¬ (0 < far x)). omega arith);
+          least = λ x a l es w.
+              ⊎-elim (λ (r : (0 < far x) × (far x ≤ length es + 1)). r .1)
+              (λ (r : (h < n) × (far (queue h) ≤ length es)). omega (arith, r .1, marked-near (r .0) x a)) (left x a es w);
+          nearest = λ x y a c es w l.
+              ⊎-elim (λ (r : (0 < far x) × (far x ≤ length es + 1)). r .0)
+              (λ (r : (h < n) × (far (queue h) ≤ length es)). absurd (omega (arith, r .1, marked-near (r .0) y c))) (left x a es w);
+        }
+
+    pub seeking-none : n ≤ h → (x : ℕ) → x < m → far x ≡ 0 → (es : List ℕ) → IsWalk g x es b → ⊥
+    seeking-none all x a e es w =
+        ⊎-elim (λ (r : (0 < far x) × (far x ≤ length es + 1)). omega (arith, r .0))
+        (λ (r : (h < n) × (far (queue h) ≤ length es)). omega (arith, r .0)) (left x a es w)

@@ -2,8 +2,8 @@
 --     hops-start, -taken, -passed     before any edge, and one edge more, from the last to the first
 --     hop-on                          a hop leads to a number that is one edge nearer
 --     first-along                     the first walk goes along the hops
---     chain-along, chain-no           so does the chain; where a number is not reached there is none
---     chain-size                      where it is reached, the chain has as many names as it is far
+--     chain-along, chain-no           so does the chain; where no walk leads there is none
+--     chain-size                      where a number is marked, the chain has as many names as it is far
 use Prim.Native.Nat.{ℕ, zero, suc, _+_, _≤_, _<_}
 use mathlib.Core.Path.{_≡_, refl, sym, ap, _∙_, subst}
 use mathlib.Core.Logic.{_⊎_, inl, inr, ⊎-elim, by-cases}
@@ -15,8 +15,13 @@ use lib.ListN.{length, length-map}
 use Rattle.meaning.specs.Chain.{Graph, IsWalk, Earlier, Before, fewer, earlier, IsFirstWalk, firstWalk, namesOn, chainOf}
 use Rattle.meaning.proofs.ChainLaws.{firstWalk-none, firstWalk-some, firstWalk-is, firstWalk-no, first-shortest}
 use Rattle.meaning.proofs.Walks.{order}
-use Rattle.search.specs.Seeking.{Far, Nearer, HopOf, Hops}
+use Rattle.search.specs.Seeking.{Nearer, HopOf, Hops}
 use Rattle.search.specs.Work.{along}
+use Rattle.search.proofs.Breadth.{Far}
+
+pub chain-no : (g : Graph) (x b : ℕ) → ((es : List ℕ) → IsWalk g x es b → ⊥) → chainOf g x b ≡ none
+unfolding chainOf
+chain-no g x b empty = rw (firstWalk-no g x b empty)
 
 module _ {g : Graph} {m : ℕ} {far : ℕ → ℕ} where
   pub hops-start : (hop : ℕ → ℕ) → Hops g m far hop (g .count)
@@ -63,10 +68,11 @@ module _ {g : Graph} {m : ℕ} {far : ℕ → ℕ} where
     -- the first edge of a walk
     nearer : (x : ℕ) (d : ℕ) (es : List ℕ) → x < m → IsWalk g x (d ∷ es) b → length es + 2 ≤ far x → Nearer g far x d
     nearer x d es a w l =
-        let r = f .least (g .to d) (ends d (w .0) .1) es (w .2) in
-        let v = f .walks (g .to d) (ends d (w .0) .1) (r .0) in
-        let k = f .least x a (d ∷ v .0) (w .0, w .1, v .1) in
-        (w .1, omega (arith, r .1, v .2, k .1))
+        let to = ends d (w .0) .1 in
+        let r = f .nearest (g .to d) x to a es (w .2) (omega arith) in
+        let v = f .walks (g .to d) to r in
+        let k = f .least x a (omega arith) (d ∷ v .0) (w .0, w .1, v .1) in
+        (w .1, omega (arith, f .least (g .to d) to r es (w .2), v .2, k))
 
     module _ (hop : ℕ → ℕ) (hops : Hops g m far hop 0) where
       hop-of : (x k : ℕ) → x < m → far x ≡ suc (suc k) → HopOf g far hop 0 x
@@ -106,12 +112,12 @@ module _ {g : Graph} {m : ℕ} {far : ℕ → ℕ} where
         where
           later : (h : HopOf g far hop 0 x) (es : List ℕ) → IsFirstWalk g (g .to (h .edge)) b es → length es ≡ k
               → (fs : List ℕ) → IsWalk g x fs b → (h .edge ∷ es ≡ fs) ⊎ Before (h .edge ∷ es) fs
-          later h es r s [] w = absurd (omega (arith, f .least x a [] w .1))
+          later h es r s [] w = absurd (omega (arith, f .least x a (omega arith) [] w))
           later h es r s (d ∷ fs) w =
               by-cases (decLt k (length fs)) (λ (l : k < length fs). inr (fewer (omega arith)))
               (λ (l : ¬ (k < length fs)).
               let n = nearer x d fs a w (omega arith) in
-              let size : length fs ≡ k = omega (arith, f .least x a (d ∷ fs) w .1) in
+              let size : length fs ≡ k = omega (arith, f .least x a (omega arith) (d ∷ fs) w) in
               at d fs w n size (order d (h .edge)))
             where
               at : (d : ℕ) (fs : List ℕ) → IsWalk g x (d ∷ fs) b → Nearer g far x d → length fs ≡ k
@@ -132,10 +138,6 @@ module _ {g : Graph} {m : ℕ} {far : ℕ → ℕ} where
           let t = first-along k x a e in
           rw (firstWalk-is g x b (t .0) (t .1)) (ap {B = Option (List ℕ)} some (t .3))
 
-    pub chain-no : (x : ℕ) → x < m → far x ≡ 0 → chainOf g x b ≡ none
-    unfolding chainOf
-    chain-no x a e = rw (firstWalk-no g x b (λ fs w. omega (arith, f .least x a fs w .0)))
-
     pub chain-size : (x : ℕ) → x < m → 0 < far x → (names : List ℕ) × (chainOf g x b ≡ some names) × (length names ≡ far x)
     unfolding chainOf
     chain-size x a l = let w = f .walks x a l in go (w .0) (w .1) (w .2) (firstWalk g x b) refl
@@ -145,4 +147,4 @@ module _ {g : Graph} {m : ℕ} {far : ℕ → ℕ} where
         go ws w s none q = absurd (firstWalk-none g x b q ws w)
         go ws w s (some es) q =
             let t = firstWalk-some g x b es q in
-            (namesOn g x es, rw q, omega (arith, length-map es (g .to), first-shortest g x b es ws t w, f .least x a es (t .walk) .1))
+            (namesOn g x es, rw q, omega (arith, length-map es (g .to), first-shortest g x b es ws t w, f .least x a l es (t .walk)))

@@ -1,7 +1,6 @@
 -- What is said of a list in which a chain may be wanted.
 --     wanted-is, wanted-not      it is so of the list itself; where no chain is wanted, of another of as many places
 --     wanted-on                  what follows for each list follows here
---     wanted-sure                where a chain is wanted, it is so of the list
 --     wanted-part                the list is the part of a slice that is lent
 use Prim.Native.Nat.{ℕ, _-_}
 use mathlib.Core.Bool.{Bool, true, false}
@@ -25,9 +24,6 @@ module _ {wanted : Bool} {list : List ℕ} {P : List ℕ → Type 0} where
   module _ (w : IfWanted wanted list P) where
     pub wanted-on : {Q : List ℕ → Type 0} → ((l : List ℕ) → P l → Q l) → IfWanted wanted list Q
     wanted-on f = record { meant = w .meant; size = w .size; same = w .same; holds = f (w .meant) (w .holds) }
-
-    pub wanted-sure : wanted ≡ true → P list
-    wanted-sure e = subst P (w .same e) (w .holds)
 
 pub wanted-part : {wanted : Bool} {P : List ℕ → Type 0} (a : ℕ) (work : List ℕ) → IfWanted wanted (drop a work) P → IfWanted wanted (take (length work - a) (drop a work)) P
 wanted-part {wanted} {P} a work w = subst (λ (xs : List ℕ). IfWanted wanted xs P) (sym (whole-part a work)) w

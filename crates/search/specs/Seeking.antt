@@ -1,5 +1,5 @@
 -- What holds of a breadth-first search backwards from a number: how far each number is from it, and where its chain goes on. `far x` is
--- one more than the fewest edges from x, and 0 where x is not reached (yet).
+-- one more than the fewest edges from x, and 0 where x is not marked (yet).
 use Prim.Native.Nat.{ℕ, _+_, _≤_, _<_}
 use mathlib.Core.Path.{_≡_}
 use mathlib.Core.Logic.{_⊎_}
@@ -18,7 +18,7 @@ Off g b x k = (es : List ℕ) × IsWalk g x es b × (length es + 1 ≡ k)
 -- a queue of n entries among m numbers, of a search to b that has followed each edge before edge e to entry h
 pub record Seeking (g : Graph) (b m : ℕ) (far queue : ℕ → ℕ) (n h e : ℕ) : Type 0 where
   pub ends : (d : ℕ) → d < g .count → (g .from d < m) × (g .to d < m)
-  pub target : far b ≡ 1
+  pub target : (b < m) × (far b ≡ 1)
   pub walks : (x : ℕ) → x < m → 0 < far x → Off g b x (far x)
   pub inside : (i : ℕ) → i < n → queue i < m
   pub apart : (i j : ℕ) → i < j → j < n → queue i ≡ queue j → ⊥
@@ -29,12 +29,6 @@ pub record Seeking (g : Graph) (b m : ℕ) (far queue : ℕ → ℕ) (n h e : �
   pub covered : (j d : ℕ) → j < n → d < g .count → g .to d ≡ queue j → Passed j d h e
       → (0 < far (g .from d)) × (far (g .from d) ≤ far (queue j) + 1)
   pub head : h ≤ n
-
--- how far each of m numbers is from b
-pub record Far (g : Graph) (b m : ℕ) (far : ℕ → ℕ) : Type 0 where
-  pub walks : (x : ℕ) → x < m → 0 < far x → Off g b x (far x)
-  pub small : (x : ℕ) → x < m → far x ≤ m
-  pub least : (x : ℕ) → x < m → (es : List ℕ) → IsWalk g x es b → (0 < far x) × (far x ≤ length es + 1)
 
 -- edge d leads from x to a number that is nearer
 abbrev pub Nearer : Graph → (ℕ → ℕ) → ℕ → ℕ → Type 0

@@ -8,9 +8,9 @@ use lib.ListN.{length, take}
 use lib.Seq.{length-take-le}
 use Rattle.bundle.specs.declared.Answer.{Answer}
 use Rattle.bundle.specs.declared.Answer.the-variants.{Accepted, Refused}
-use Rattle.stored.specs.Stored.{Whether, BytesAt, Due, Same, numberBytes, offsetBytes, layoutBytes, refusalBytes, IsDue}
+use Rattle.stored.specs.Stored.{Whether, BytesAt, Due, Same, numberBytes, numbersBytes, layoutBytes, chainBytes, refusalBytes, IsDue}
 use Rattle.stored.proofs.Standing.{whether-same, same-due, due-same}
-use Rattle.stored.proofs.Numbers.{length-number, length-layout, layout-stands, layout-offsets, due-stands, stands-due}
+use Rattle.stored.proofs.Numbers.{length-number, length-layout, layout-stands, layout-offsets, length-chain, chain-stands, chain-names, due-stands, stands-due}
 
 -- a refusal
 pub refusal-whether : (r : Bool) (k m : ℕ) (due : List ℕ) → m ≡ 2 → Whether r (Same (refusalBytes k) due m) → Whether r (Due due m (refusalBytes k))
@@ -50,7 +50,7 @@ module _ (size alignment : ℕ) (list : List ℕ) (count : ℕ) (due : List ℕ)
   layout-length p = omega (arith, p .1 .size, length-layout size alignment (take count list) due, length-take-le count list (p .0))
 
   pub layout-whether : (r : Bool) → m ≡ 16 + 4 * count → BytesAt due 0 (numberBytes 8 size) → BytesAt due 8 (numberBytes 8 alignment)
-      → Whether r ((count ≤ length list) × BytesAt due 16 (offsetBytes (take count list)))
+      → Whether r ((count ≤ length list) × BytesAt due 16 (numbersBytes 4 (take count list)))
       → Whether r ((count ≤ length list) × Due due m (layoutBytes size alignment (take count list)))
   layout-whether r e a b =
       whether-same r
@@ -59,3 +59,19 @@ module _ (size alignment : ℕ) (list : List ℕ) (count : ℕ) (due : List ℕ)
     where
       whole : count ≤ length list → m ≡ length (layoutBytes size alignment (take count list))
       whole h = omega (arith, length-layout size alignment (take count list) due, length-take-le count list h)
+
+-- a count and a chain
+module _ (followed : ℕ) (list : List ℕ) (count : ℕ) (due : List ℕ) (m : ℕ) where
+  pub chain-length : (count ≤ length list) × Due due m (chainBytes followed (take count list)) → m ≡ 8 + 2 * count
+  chain-length p = omega (arith, p .1 .size, length-chain followed (take count list) due, length-take-le count list (p .0))
+
+  pub chain-whether : (r : Bool) → m ≡ 8 + 2 * count → BytesAt due 0 (numberBytes 8 followed)
+      → Whether r ((count ≤ length list) × BytesAt due 8 (numbersBytes 2 (take count list)))
+      → Whether r ((count ≤ length list) × Due due m (chainBytes followed (take count list)))
+  chain-whether r e a =
+      whether-same r
+      (λ p. (p .0, stands-due due m _ (whole (p .0)) (chain-stands followed (take count list) due a (p .1))))
+      (λ p. (p .0, chain-names followed (take count list) due (due-stands due m _ (p .1))))
+    where
+      whole : count ≤ length list → m ≡ length (chainBytes followed (take count list))
+      whole h = omega (arith, length-chain followed (take count list) due, length-take-le count list h)

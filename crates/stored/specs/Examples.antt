@@ -2,7 +2,7 @@
 use mathlib.Core.List.{[], _∷_}
 use mathlib.Core.Path.{_≡_}
 use lib.IntN.{pos, negsuc}
-use Rattle.stored.specs.Stored.{numberBytes, layoutBytes, bitsOf}
+use Rattle.stored.specs.Stored.{numberBytes, layoutBytes, chainBytes, bitsOf}
 
 pub record Examples : Type 0 where
   -- 0x01020304 in four bytes
@@ -14,3 +14,5 @@ pub record Examples : Type 0 where
   -- size 12, alignment 4, offsets 0 and 258
   pub layout : layoutBytes 12 4 (0 ∷ 258 ∷ [])
       ≡ 12 ∷ 0 ∷ 0 ∷ 0 ∷ 0 ∷ 0 ∷ 0 ∷ 0 ∷ 4 ∷ 0 ∷ 0 ∷ 0 ∷ 0 ∷ 0 ∷ 0 ∷ 0 ∷ 0 ∷ 0 ∷ 0 ∷ 0 ∷ 2 ∷ 1 ∷ 0 ∷ 0 ∷ []
+  -- two names followed, on the chain from 7 over 258 to 9
+  pub chain : chainBytes 2 (7 ∷ 258 ∷ 9 ∷ []) ≡ 2 ∷ 0 ∷ 0 ∷ 0 ∷ 0 ∷ 0 ∷ 0 ∷ 0 ∷ 7 ∷ 0 ∷ 2 ∷ 1 ∷ 9 ∷ 0 ∷ []

@@ -35,13 +35,17 @@ pub record Same (a b : List ℕ) (n : ℕ) : Type 0 where
 unfoldable pub numberBytes : ℕ → ℕ → List ℕ
 numberBytes w n = bytes (numberItems w n)
 
--- offsets, each in four bytes
-unfoldable pub offsetBytes : List ℕ → List ℕ
-offsetBytes offsets = flatMap (numberBytes 4) offsets
+-- numbers, each in w bytes
+unfoldable pub numbersBytes : ℕ → List ℕ → List ℕ
+numbersBytes w ns = flatMap (numberBytes w) ns
 
--- size and alignment in eight bytes each, and the offsets
+-- size and alignment in eight bytes each, and offsets in four
 unfoldable pub layoutBytes : ℕ → ℕ → List ℕ → List ℕ
-layoutBytes size alignment offsets = numberBytes 8 size ++ numberBytes 8 alignment ++ offsetBytes offsets
+layoutBytes size alignment offsets = numberBytes 8 size ++ numberBytes 8 alignment ++ numbersBytes 4 offsets
+
+-- the count of followed names in eight bytes, and the names of a chain in two each
+unfoldable pub chainBytes : ℕ → List ℕ → List ℕ
+chainBytes followed names = numberBytes 8 followed ++ numbersBytes 2 names
 
 -- the number of 64 bits that stands for z: z, or 2^64 more where z is negative (`negsuc n` is -1 - n)
 unfoldable pub bitsOf : ℤ → ℕ

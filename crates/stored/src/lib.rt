@@ -4,7 +4,7 @@ ghost use mathlib.Core.Path.{_≡_};
 ghost use Prim.Native.Nat.{_≤_};
 ghost use lib.ListN.{length, take};
 ghost use Rattle.stored.specs.Examples.{Examples};
-ghost use Rattle.stored.specs.Stored.{Whether, BytesAt, Due, Same, numberBytes, offsetBytes, layoutBytes, bitsOf, refusalBytes, IsDue};
+ghost use Rattle.stored.specs.Stored.{Whether, BytesAt, Due, Same, numberBytes, numbersBytes, layoutBytes, chainBytes, bitsOf, refusalBytes, IsDue};
 
 // Whether the first n bytes of both are the same.
 pub fn same_first(a: &[u8], b: &[u8], n: usize) -> bool
@@ -81,7 +81,7 @@ fn long(number: u32) -> u64
 
 // Whether the first `count` offsets are those behind the first 16 bytes.
 pub fn offsets_are(list: &[u32], count: usize, due: &[u8]) -> bool
-    ensures { λ r. ⌜ Whether r ((count ≤ length (now (list .entry))) × BytesAt (now (due .entry)) 16 (offsetBytes (take count (now (list .entry))))) ⌝ }
+    ensures { λ r. ⌜ Whether r ((count ≤ length (now (list .entry))) × BytesAt (now (due .entry)) 16 (numbersBytes 4 (take count (now (list .entry))))) ⌝ }
 {
     if list.len() < count {
         return false;
@@ -125,6 +125,50 @@ pub fn layout_is(
         return false;
     }
     offsets_are(list, count, due)
+}
+
+fn wide(name: u16) -> u64
+    ensures { λ r. ⌜ r ≡ name ⌝ }
+{
+    name as u64
+}
+
+// Whether the first `count` names are those behind the first 8 bytes.
+pub fn names_are(list: &[u16], count: usize, due: &[u8]) -> bool
+    ensures { λ r. ⌜ Whether r ((count ≤ length (now (list .entry))) × BytesAt (now (due .entry)) 8 (numbersBytes 2 (take count (now (list .entry))))) ⌝ }
+{
+    if list.len() < count {
+        return false;
+    }
+    let mut at = 8;
+    let mut i = 0;
+    while i < count {
+        if !number_is(due, at, 2, wide(list[i])) {
+            return false;
+        }
+        at += 2;
+        i += 1;
+    }
+    true
+}
+
+// Whether the count of followed names and the names of a chain are those in the first m bytes.
+pub fn chain_is(followed: u64, list: &[u16], count: usize, due: &[u8], m: usize) -> bool
+    ensures { λ r. ⌜ Whether r ((count ≤ length (now (list .entry))) × Due (now (due .entry)) m (chainBytes followed (take count (now (list .entry))))) ⌝ }
+{
+    if m < 8 {
+        return false;
+    }
+    if (m - 8) % 2 != 0 {
+        return false;
+    }
+    if (m - 8) / 2 != count {
+        return false;
+    }
+    if !number_is(due, 0, 8, followed) {
+        return false;
+    }
+    names_are(list, count, due)
 }
 
 // The number that has the same 64 bits.

@@ -210,7 +210,7 @@ pub fn validate_references(
     out: &mut [u8],
     position: Position,
 ) -> Position
-    requires { ⌜ EdgesPrepared (now s) layout (now edges) × (7 * layout .edges + 5 ≤ length (now work)) ⌝ }
+    requires { ⌜ EdgesPrepared (now s) layout (now edges) × (7 * layout .edges + 7 ≤ length (now work)) ⌝ }
     requires { ⌜ LayoutOf (now s) layout (now places) × Acyclic (now s) × Kept (now s) false (now kept) × Among (now s) subject × DefinitionsNoted (now s) (now places) (layout .definitions) ⌝ }
     requires { ⌜ (references .end ≤ length (now s)) × Fits (now s) (referencesFrom (now s) (references .at) (references .end)) × Room position (foundIn (now s) subject references) ⌝ }
     ensures { λ r. ⌜ Wrote (foundIn (now (s .entry)) subject references) (now (out .entry)) position (now (out .exit)) r × Kept (now (s .entry)) false (now (kept .exit)) ⌝ }
@@ -218,7 +218,7 @@ pub fn validate_references(
     let i = subject.number;
     let name = subject.name;
     let end = references.end;
-    let list = 6 * layout.edges + 1;
+    let list = 6 * layout.edges + 3;
     let mut known = [0u16; bundle::DEFINITIONS];
     work[0] = 0;
     let mut next = references.at;

@@ -25,7 +25,7 @@ pub fn validate_enum_tag_constraints(
     out: &mut [u8],
     position: Position,
 ) -> Position
-    requires { ⌜ EdgesPrepared (now s) layout (now edges) × (7 * layout .edges + 5 ≤ length (now work)) ⌝ }
+    requires { ⌜ EdgesPrepared (now s) layout (now edges) × (7 * layout .edges + 7 ≤ length (now work)) ⌝ }
     requires { ⌜ LayoutOf (now s) layout (now places) × Acyclic (now s) × Kept (now s) false (now kept) × Among (now s) subject × Noted (now s) (now places) (layout .definitions) ⌝ }
     requires { ⌜ EnumAt 24 (now s) (subject .at) × Room position (violationsOf (now s) subject) ⌝ }
     ensures { λ r. ⌜ Wrote (violationsOf (now (s .entry)) subject) (now (out .entry)) position (now (out .exit)) r × Kept (now (s .entry)) false (now (kept .exit)) ⌝ }
@@ -58,7 +58,7 @@ pub fn validate_array_size_constraints(
     out: &mut [u8],
     position: Position,
 ) -> Position
-    requires { ⌜ EdgesPrepared (now s) layout (now edges) × (7 * layout .edges + 5 ≤ length (now work)) ⌝ }
+    requires { ⌜ EdgesPrepared (now s) layout (now edges) × (7 * layout .edges + 7 ≤ length (now work)) ⌝ }
     requires { ⌜ LayoutOf (now s) layout (now places) × Among (now s) subject × Noted (now s) (now places) (layout .definitions) ⌝ }
     requires { ⌜ ArrayAt 24 (now s) (subject .at) (getD (now s) (subject .at + 10) 0) × Room position (violationsOf (now s) subject) ⌝ }
     requires { ⌜ Acyclic (now s) × Kept (now s) false (now kept) × Kept (now s) true (now nested) ⌝ }
@@ -67,7 +67,7 @@ pub fn validate_array_size_constraints(
     let i = subject.number;
     let name = subject.name;
     let at = subject.at;
-    let list = 6 * layout.edges + 1;
+    let list = 6 * layout.edges + 3;
     let references = validate::references_of(s, at + 11, false);
     let check = checks::check_array_element_type_size(
         s,

@@ -14,7 +14,7 @@ use mir.Val.{Fits, SFits, toZ, ofZ}
 use mir.ValLaws.{toZ-ofZ}
 use Rattle.words.specs.declared.Turn.the-variants.{More, End, Failed}
 use Rattle.words.specs.declared.Order as ordered
-use Rattle.words.specs.declared.Order.the-variants.{Report, Renumber, Chain, Size, Value, Help, Wrong}
+use Rattle.words.specs.declared.Order.the-variants.{Report, Renumber, Chain, Followed, Size, Value, Help, Wrong}
 use Rattle.words.specs.declared.Input as got
 use Rattle.words.specs.declared.Input.the-variants.{Bytes}
 use Rattle.words.specs.declared.Message as message
@@ -55,18 +55,19 @@ module _ {z : ℤ} (fits : SFits w64 z) where
   carries p = subst⁻¹ (λ y. More (natAbs y) ≡ turnOf z) same p
 
 -- what is said where the words are not wrong
-module _ (o : ordered.Order) (known : OneOf (0 ∷ 1 ∷ 2 ∷ 3 ∷ 4 ∷ 5 ∷ []) (tagOf the-type o)) (i : got.Input) (w : Bool) where
+module _ (o : ordered.Order) (known : OneOf (0 ∷ 1 ∷ 2 ∷ 3 ∷ 4 ∷ 5 ∷ 6 ∷ []) (tagOf the-type o)) (i : got.Input) (w : Bool) where
   said : (m : message.Message) → m ≡ failureOf i w → m ≡ messageOf o i w
   said m e = go o known
     where
-      go : (p : ordered.Order) → OneOf (0 ∷ 1 ∷ 2 ∷ 3 ∷ 4 ∷ 5 ∷ []) (tagOf the-type p) → m ≡ messageOf p i w
+      go : (p : ordered.Order) → OneOf (0 ∷ 1 ∷ 2 ∷ 3 ∷ 4 ∷ 5 ∷ 6 ∷ []) (tagOf the-type p) → m ≡ messageOf p i w
       go Report t = e
       go Renumber t = e
       go (Chain from to) t = e
+      go (Followed from to) t = e
       go (Size n) t = e
       go (Value n) t = e
       go Help t = e
-      go Wrong t = absurd (miss (0 ∷ 1 ∷ 2 ∷ 3 ∷ 4 ∷ 5 ∷ []) 6 tt t)
+      go Wrong t = absurd (miss (0 ∷ 1 ∷ 2 ∷ 3 ∷ 4 ∷ 5 ∷ 6 ∷ []) 7 tt t)
 
   pub says-unread : i ≡ got.the-variants.Failed → Unread ≡ messageOf o i w
   says-unread e = said Unread (ap (λ j. failureOf j w) (sym e))

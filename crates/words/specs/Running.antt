@@ -16,6 +16,7 @@ abbrev pub readsBundle : Order → Bool
 readsBundle order.Report = true
 readsBundle order.Renumber = true
 readsBundle (order.Chain from to) = true
+readsBundle (order.Followed from to) = true
 readsBundle (order.Size definition) = true
 readsBundle (order.Value definition) = true
 readsBundle order.Help = false
@@ -38,6 +39,7 @@ abbrev pub messageOf : Order → Input → Bool → Message
 messageOf order.Report i written = failureOf i written
 messageOf order.Renumber i written = failureOf i written
 messageOf (order.Chain from to) i written = failureOf i written
+messageOf (order.Followed from to) i written = failureOf i written
 messageOf (order.Size definition) i written = failureOf i written
 messageOf (order.Value definition) i written = failureOf i written
 messageOf order.Help i written = failureOf i written

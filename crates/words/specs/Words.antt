@@ -8,14 +8,17 @@ use Rattle.decimal.specs.Decimal.{Says}
 use Rattle.words.specs.declared.Word as word
 use Rattle.words.specs.declared.Word.the-variants as is
 use Rattle.words.specs.declared.Order.{Order}
-use Rattle.words.specs.declared.Order.the-variants.{Report, Renumber, Chain, Size, Value, Help, Wrong}
+use Rattle.words.specs.declared.Order.the-variants.{Report, Renumber, Chain, Followed, Size, Value, Help, Wrong}
 
--- the words, in ASCII: renumber, chain, size, value, help, --help, -h
+-- the words, in ASCII: renumber, chain, followed, size, value, help, --help, -h
 abbrev pub renumberWord : List ℕ
 renumberWord = 114 ∷ 101 ∷ 110 ∷ 117 ∷ 109 ∷ 98 ∷ 101 ∷ 114 ∷ []
 
 abbrev pub chainWord : List ℕ
 chainWord = 99 ∷ 104 ∷ 97 ∷ 105 ∷ 110 ∷ []
+
+abbrev pub followedWord : List ℕ
+followedWord = 102 ∷ 111 ∷ 108 ∷ 108 ∷ 111 ∷ 119 ∷ 101 ∷ 100 ∷ []
 
 abbrev pub sizeWord : List ℕ
 sizeWord = 115 ∷ 105 ∷ 122 ∷ 101 ∷ []
@@ -40,16 +43,17 @@ IsHelp w = (w ≡ helpWord) ⊎ (w ≡ longHelpWord) ⊎ (w ≡ shortHelpWord)
 abbrev pub IsWord : List ℕ → word.Word → Type 0
 IsWord w is.Renumber = w ≡ renumberWord
 IsWord w is.Chain = w ≡ chainWord
+IsWord w is.Followed = w ≡ followedWord
 IsWord w is.Size = w ≡ sizeWord
 IsWord w is.Value = w ≡ valueWord
 IsWord w is.Help = IsHelp w
-IsWord w is.Other = (w ≡ renumberWord → ⊥) × (w ≡ chainWord → ⊥) × (w ≡ sizeWord → ⊥) × (w ≡ valueWord → ⊥) × (IsHelp w → ⊥)
+IsWord w is.Other = (w ≡ renumberWord → ⊥) × (w ≡ chainWord → ⊥) × (w ≡ followedWord → ⊥) × (w ≡ sizeWord → ⊥) × (w ≡ valueWord → ⊥) × (IsHelp w → ⊥)
 
--- "chain" and two words that say names
-pub record AsksChain (words : List (List ℕ)) (from to : ℕ) : Type 0 where
+-- this word, and two that say names
+pub record AsksNames (word : List ℕ) (words : List (List ℕ)) (from to : ℕ) : Type 0 where
   pub first : List ℕ
   pub last : List ℕ
-  pub all : words ≡ chainWord ∷ first ∷ last ∷ []
+  pub all : words ≡ word ∷ first ∷ last ∷ []
   pub says-from : Says first from
   pub says-to : Says last to
 
@@ -70,7 +74,8 @@ pub record AsksNothing (words : List (List ℕ)) : Type 0 where
   pub some : words ≡ [] → ⊥
   pub renumber : words ≡ renumberWord ∷ [] → ⊥
   pub help : AsksHelp words → ⊥
-  pub chain : (from to : ℕ) → AsksChain words from to → ⊥
+  pub chain : (from to : ℕ) → AsksNames chainWord words from to → ⊥
+  pub followed : (from to : ℕ) → AsksNames followedWord words from to → ⊥
   pub size : (definition : ℕ) → AsksNumber sizeWord words definition → ⊥
   pub value : (definition : ℕ) → AsksNumber valueWord words definition → ⊥
 
@@ -78,7 +83,8 @@ pub record AsksNothing (words : List (List ℕ)) : Type 0 where
 abbrev pub Asks : List (List ℕ) → Order → Type 0
 Asks words Report = words ≡ []
 Asks words Renumber = words ≡ renumberWord ∷ []
-Asks words (Chain from to) = AsksChain words from to
+Asks words (Chain from to) = AsksNames chainWord words from to
+Asks words (Followed from to) = AsksNames followedWord words from to
 Asks words (Size definition) = AsksNumber sizeWord words definition
 Asks words (Value definition) = AsksNumber valueWord words definition
 Asks words Help = AsksHelp words

@@ -11,6 +11,7 @@ ghost use Rattle.words.specs.Words.{IsWord, Asks, AsksOnly, wordsOf};
 enum Word {
     Renumber,
     Chain,
+    Followed,
     Size,
     Value,
     Help,
@@ -22,6 +23,7 @@ pub enum Order {
     Report,
     Renumber,
     Chain(u16, u16),
+    Followed(u16, u16),
     Size(u16),
     Value(u16),
     Help,
@@ -37,6 +39,9 @@ fn word_of(word: &[u8]) -> Word
     }
     if check::same(word, b"chain") {
         return Word::Chain;
+    }
+    if check::same(word, b"followed") {
+        return Word::Followed;
     }
     if check::same(word, b"size") {
         return Word::Size;
@@ -63,6 +68,7 @@ fn alone(word: Word) -> Order
     match word {
         Word::Renumber => Order::Renumber,
         Word::Chain => Order::Wrong,
+        Word::Followed => Order::Wrong,
         Word::Size => Order::Wrong,
         Word::Value => Order::Wrong,
         Word::Help => Order::Help,
@@ -88,16 +94,17 @@ fn ahead(word: Word, number: Parsed) -> Order
 fn between(word: Word, from: Parsed, to: Parsed) -> Order
     ensures { λ r. ⌜ ((w x y : List ℕ) → IsWord w word → IsParsed x from → IsParsed y to → Asks (w ∷ x ∷ y ∷ []) r) ⌝ }
 {
-    let Word::Chain = word else {
-        return Order::Wrong;
-    };
     let Parsed::Name(first) = from else {
         return Order::Wrong;
     };
     let Parsed::Name(last) = to else {
         return Order::Wrong;
     };
-    Order::Chain(first, last)
+    match word {
+        Word::Chain => Order::Chain(first, last),
+        Word::Followed => Order::Followed(first, last),
+        _ => Order::Wrong,
+    }
 }
 
 // What the arguments ask for, of which there are `count`, the program's own name among them.
@@ -152,6 +159,7 @@ pub fn reads_bundle(order: Order) -> bool
         Order::Report => true,
         Order::Renumber => true,
         Order::Chain(_, _) => true,
+        Order::Followed(_, _) => true,
         Order::Size(_) => true,
         Order::Value(_) => true,
         Order::Help => false,

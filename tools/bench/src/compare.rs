@@ -1,6 +1,8 @@
 //! The library's answers against the oracle's, on limit cases and random bundles.
 
 use crate::exchange::exchanged;
+#[cfg(not(without_count))]
+use crate::followed;
 use crate::{fixed, value};
 use layout::Refusal;
 use layout_oracle::bundle::{encode, Name};
@@ -44,8 +46,26 @@ pub fn compare(seed: u64, count: usize) -> bool {
     if !fixed::compare(seed, count) || !value::compare(seed, count) {
         return false;
     }
+    if !counts(seed, count) {
+        return false;
+    }
     println!("no difference in report, accept, renumber, chain, fixed_size and size_value, with");
     println!("exchanged names too");
+    true
+}
+
+#[cfg(not(without_count))]
+fn counts(seed: u64, count: usize) -> bool {
+    let same = followed::compare(seed, count);
+    if same {
+        println!("no difference in chain_followed");
+    }
+    same
+}
+
+#[cfg(without_count)]
+fn counts(_: u64, _: usize) -> bool {
+    println!("the library has no chain_followed");
     true
 }
 

@@ -52,6 +52,35 @@ pub fn same_by_any_names<T: PartialEq>(
     })
 }
 
+/// Whether a search gives the same count under exchanges of names, of which one sends 0
+/// to another name and one renumbers the bundle, and the chain with its names exchanged.
+#[cfg(not(without_count))]
+pub fn same_search(bytes: &[u8], from: Name, to: Name, random: &mut Random) -> bool {
+    let (Ok(found), Ok(before)) = (scan(bytes), layout::chain_followed_vec(bytes, from, to)) else {
+        return true;
+    };
+    let mut names = distinct(bytes, &found.names);
+    for name in [from, to] {
+        if name != 0 && !names.contains(&name) {
+            names.push(name);
+        }
+    }
+    let mut maps = vec![exchange(&names, random), numbering(&names)];
+    if !names.is_empty() {
+        let name = random.pick(&names);
+        maps.push(HashMap::from([(name, 0), (0, name)]));
+    }
+    maps.iter().all(|map| {
+        let renamed = |name: &Name| map.get(name).copied().unwrap_or(*name);
+        let other = put_through(bytes, &found.names, map);
+        let due = layout::FollowedChain {
+            names: before.names.iter().map(renamed).collect(),
+            followed: before.followed,
+        };
+        layout::chain_followed_vec(&other, renamed(&from), renamed(&to)) == Ok(due)
+    })
+}
+
 fn renumbered_report(
     bytes: &[u8],
     plain: &[u8],

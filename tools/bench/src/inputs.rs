@@ -92,11 +92,16 @@ fn device(number: Name) -> Device {
 /// 140 definitions and 600 edges: twenty winches of seven definitions. The first
 /// `broken` of them have one violation each.
 pub fn realistic(broken: Name) -> Bundle {
+    winches(DEVICES, broken)
+}
+
+/// So many winches of seven definitions and thirty edges, eleven or more.
+pub fn winches(devices: Name, broken: Name) -> Bundle {
     let mut bundle = Bundle {
         current: device(0).frame,
         ..Bundle::default()
     };
-    for number in 0..DEVICES {
+    for number in 0..devices {
         let own = device(number);
         let mut bodies = sound_bodies(&own);
         if number < broken {
@@ -106,8 +111,24 @@ pub fn realistic(broken: Name) -> Bundle {
             bundle.definitions.push(Definition { name, body });
         }
     }
-    (0..DEVICES).for_each(|number| add_edges(number, &mut bundle.edges));
+    (0..devices).for_each(|number| add_edges(number, devices, &mut bundle.edges));
     bundle
+}
+
+/// The names of a winch that chains are asked for.
+pub struct Searched {
+    pub frame: Name,
+    pub head: Name,
+    pub tension: Name,
+}
+
+pub fn searched(number: Name) -> Searched {
+    let own = device(number);
+    Searched {
+        frame: own.frame,
+        head: own.head,
+        tension: own.tension,
+    }
 }
 
 fn sound_bodies(own: &Device) -> Vec<(Name, Type)> {
@@ -169,7 +190,7 @@ fn break_one(own: &Device, number: Name, bodies: &mut [(Name, Type)]) {
     bodies[place].1 = body;
 }
 
-fn add_edges(number: Name, edges: &mut Vec<Edge>) {
+fn add_edges(number: Name, devices: Name, edges: &mut Vec<Edge>) {
     let own = device(number);
     let mut edge = |from, to, kind| edges.push(Edge { from, to, kind });
     edge(own.frame, own.head, 0);
@@ -183,7 +204,7 @@ fn add_edges(number: Name, edges: &mut Vec<Edge>) {
     edge(own.attachments, own.attachment, 0);
     edge(own.attachment, own.attachment, 1);
     for step in 0..10 {
-        let other = device((number + step + 1) % DEVICES);
+        let other = device((number + step + 1) % devices);
         edge(own.frame, other.head, 1);
         edge(own.frame, other.attachment, 1);
     }

@@ -1,10 +1,13 @@
 //! Runs the library and the original on the same bundles and prints the ratios of
 //! their times. README.md says what is measured.
 
+mod chain_rows;
 mod compare;
 mod exchange;
 mod fixed;
 mod fixed_rows;
+#[cfg(not(without_count))]
+mod followed;
 mod inputs;
 mod measure;
 mod shapes;
@@ -114,6 +117,7 @@ const NAME_WIDTH: usize = 44;
 
 const USAGE: &str = "usage:
   bench [--quick]            times of the library and the original
+  bench chains               the times of chains and listings alone
   bench fixed                the times of fixed sizes alone
   bench values               the times of values of sizes alone
   bench compare SEED COUNT   the library's answers against the oracle's
@@ -128,6 +132,7 @@ fn main() -> ExitCode {
     let done = match words[..] {
         [] => Some(times(false)),
         ["--quick"] => Some(times(true)),
+        ["chains"] => Some(chain_rows::print()),
         ["fixed"] => Some(fixed_rows::print()),
         ["values"] => Some(value_rows::print()),
         ["compare", seed, count] => {
@@ -159,8 +164,9 @@ fn times(quick: bool) -> bool {
     print_growth();
     print_other_calls();
     println!();
+    let chains = chain_rows::print();
     let fixed = fixed_rows::print();
-    value_rows::print() && fixed && same
+    value_rows::print() && fixed && chains && same
 }
 
 fn cases() -> Vec<(&'static str, Bundle)> {
@@ -193,6 +199,7 @@ fn write_rows(folder: &str) -> bool {
         .into_iter()
         .chain(fixed_rows::cases())
         .chain(value_rows::cases())
+        .chain(chain_rows::cases())
         .enumerate()
         .map(write)
         .all(|written| written.is_ok())

@@ -17,7 +17,7 @@ rustc --edition 2021 -C opt-level=2 -C codegen-units=1 -C panic=abort \
 
 # A Rust program has a copy of Rust's own library already. All of it is bound into
 # one object here, in which only the calls can be seen from outside.
-calls="layout_accept layout_report layout_renumber layout_chain layout_fixed_size layout_size_value"
+calls="layout_accept layout_report layout_renumber layout_chain layout_chain_followed layout_fixed_size layout_size_value"
 wanted=
 kept=
 # Newer names of the C library that Rust's own library only uses where they exist.

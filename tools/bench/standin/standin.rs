@@ -3,6 +3,7 @@
 
 use layout_oracle::bundle::{encode, Bundle, Refusal, OUTPUT_TOO_SMALL};
 use layout_oracle::fixed::fixed_answer;
+use layout_oracle::followed::followed_answer;
 use layout_oracle::report::report_bytes;
 use layout_oracle::value::value_answer;
 use layout_oracle::{reader, reference};
@@ -102,6 +103,27 @@ pub unsafe extern "C" fn layout_chain(
     let result = reader::read(input_slice(bundle, bundle_len))
         .map(|tree| reference::chain(&tree, from, to).unwrap_or_default());
     answer(result, output_slice(list, list_len), &mut *written)
+}
+
+/// # Safety
+/// See include/layout.h.
+#[no_mangle]
+pub unsafe extern "C" fn layout_chain_followed(
+    bundle: *const u8,
+    bundle_len: usize,
+    from: u16,
+    to: u16,
+    list: *mut u16,
+    list_len: usize,
+    written: *mut usize,
+    followed: *mut usize,
+) -> u8 {
+    let found = match followed_answer(input_slice(bundle, bundle_len), from, to, list_len) {
+        Err(refusal) => return refusal,
+        Ok(found) => found,
+    };
+    *followed = found.followed;
+    answer(Ok(found.names), output_slice(list, list_len), &mut *written)
 }
 
 /// # Safety

@@ -150,7 +150,11 @@ impl<'a> Lexer<'a> {
                 self.advance(sign.len());
                 Ok(Token::Sign(sign))
             }
-            None => self.error(format!("`{first}` has no meaning here")),
+            None => {
+                let first = first.to_string();
+                let first = words::cut(&first);
+                self.error(format!("`{first}` has no meaning here"))
+            }
         }
     }
 

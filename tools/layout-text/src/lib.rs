@@ -1,8 +1,9 @@
 //! Bundles of frame definitions as text: reading and writing the notation,
-//! reading and writing the bytes, reports in words, and the fixed sizes of definitions
-//! as tables and pictures. README.md says what the notation is.
+//! reading and writing the bytes, reports and chains in words, and the fixed sizes of
+//! definitions as tables and pictures. README.md says what the notation is.
 
 pub mod asked;
+pub mod chain;
 pub mod circle;
 pub mod encode;
 pub mod explain;

@@ -1,21 +1,23 @@
-//! Bundles as text: `assemble`, `show`, `explain` and `sizes`. README.md describes them.
+//! Bundles as text: `assemble`, `show`, `explain`, `sizes` and `chain`. README.md describes them.
 
 mod files;
 
 use files::{FileError, Input};
 use layout::Refusal;
+use layout_text::chain::Search;
 use layout_text::circle::circle;
 use layout_text::encode::encode;
 use layout_text::explain::{explain, Parts, Source};
 use layout_text::names::Names;
 use layout_text::parse::{parse, Text};
 use layout_text::read::read;
-use layout_text::recognise::is_text;
+use layout_text::recognise::{is_bundle, is_text};
 use layout_text::report::{self, Report};
 use layout_text::show::show;
 use layout_text::sizes::Sizes;
-use layout_text::tree::{Bundle, BYTE_LIMIT};
-use layout_text::words::cut;
+use layout_text::tree::{Bundle, Name, BYTE_LIMIT};
+use layout_text::words::{cut, one_line};
+use std::borrow::Cow;
 use std::io::{self, Write};
 use std::os::unix::fs::MetadataExt;
 use std::process::ExitCode;
@@ -27,22 +29,27 @@ const USAGE: &str = "usage:
                        [--report REPORT [--as-given]]
   layout-text sizes    [FILE [NAME]] [--text | --bytes] [--names TEXT]
                        [--svg [-o PICTURE]]
+  layout-text chain    FILE FROM TO [--text | --bytes] [--names TEXT]
   layout-text help
 
 An option may be given once, and --text and --bytes exclude each other.
-A file that is left out, or `-`, is standard input or output. explain and sizes take
-FILE as text if its name ends in .layout, or if it does not start with hex 60 and is
-UTF-8 without control characters; --text and --bytes say otherwise. REPORT is a report's
+A file that is left out, or `-`, is standard input or output. explain, sizes and chain
+take FILE as text if its name ends in .layout, or if it does not start with hex 60 and
+is UTF-8 without control characters; --text and --bytes say otherwise. REPORT is a report's
 bytes or its hexadecimal digits; one that is not FILE's is refused. With --as-given it
 is not compared. sizes prints the size, the alignment and the fields of every definition
 that has a fixed size, and says why the others have none; of an array whose size is
 written as a sum the value too, or which part of the sum has none. With NAME, a word or
-a number as #17, it is that definition alone. --svg draws that one.
+a number as #17, it is that definition alone. --svg draws that one. chain prints the
+names on the shortest path of edges from FROM to TO, each a word or a number as #17, of
+how many names the edges were followed for it, and to how many edges lead from FROM,
+directly or through others. --names gives the words for names, in place of FILE's own.
 A text may have 4,194,304 bytes.
 Exit codes: 0 done, and for explain no violation; 1 violations; 2 a bundle that is
 refused, or a NAME without a fixed size; 3 a damaged text, a report that is not the
-bundle's, a NAME without a definition, a file that cannot be read or written, a
-library whose answers are not those that the program works out, or a wrong command.
+bundle's, a NAME without a definition, a FROM or TO that is no name, a file that cannot
+be read or written, a library whose answers are not those that the program works out or
+do not agree, or a wrong command.
 ";
 
 /// The end of each message about a wrong command.
@@ -69,8 +76,10 @@ type Failure = (String, u8);
 #[derive(Default)]
 struct Arguments {
     file: Option<String>,
-    /// The second word that is no option: a definition's name.
+    /// The second word that is no option: a definition's name, or the start of a chain.
     name: Option<String>,
+    /// The third one: the end of a chain.
+    to: Option<String>,
     out: Option<String>,
     names: Option<String>,
     report: Option<String>,
@@ -102,6 +111,7 @@ fn main() -> ExitCode {
         "show" => (run_show, &["-o", "--names"]),
         "explain" => (run_explain, &EXPLAIN_OPTIONS),
         "sizes" => (run_sizes, &SIZES_OPTIONS),
+        "chain" => (run_chain, &CHAIN_OPTIONS),
         "help" | "-h" | "--help" => (run_help, &["help"]),
         _ => {
             note(&format!("`{}` is no verb; {MORE}", cut(&verb)));
@@ -135,6 +145,9 @@ const EXPLAIN_OPTIONS: [&str; 6] = [
 /// `NAME` allows a second word that is no option.
 const SIZES_OPTIONS: [&str; 6] = ["--names", "--text", "--bytes", "--svg", "-o", "NAME"];
 
+/// `TO` allows a third one; both must be there.
+const CHAIN_OPTIONS: [&str; 5] = ["--names", "--text", "--bytes", "NAME", "TO"];
+
 /// A line on standard error. If even that cannot be written, the exit code tells.
 fn note(message: &str) {
     if !message.is_empty() {
@@ -145,6 +158,9 @@ fn note(message: &str) {
 fn arguments(words: impl Iterator<Item = String>, allowed: &[&str]) -> Result<Arguments, Failure> {
     let found = options(words, allowed).and_then(|found| {
         let picture = allowed.contains(&"--svg");
+        if allowed.contains(&"TO") && found.to.is_none() && !found.help {
+            return Err("`chain` needs FILE, FROM and TO".to_string());
+        }
         let missing = match &found {
             _ if found.help => None,
             _ if found.as_given && found.report.is_none() => Some(("--as-given", "--report")),
@@ -185,6 +201,9 @@ fn options(mut words: impl Iterator<Item = String>, allowed: &[&str]) -> Result<
             }
             _ if found.name.is_none() && allowed.contains(&"NAME") => {
                 found.name = Some(word.to_string());
+            }
+            _ if found.to.is_none() && allowed.contains(&"TO") => {
+                found.to = Some(word.to_string());
             }
             _ => return Err(format!("`{}` is one argument too many", cut(word))),
         }
@@ -246,10 +265,10 @@ fn same_file(path: Option<&str>, other: &str) -> bool {
     }
 }
 
-fn label(path: Option<&str>) -> &str {
+fn label(path: Option<&str>) -> Cow<'_, str> {
     match path {
-        None | Some("-") => "standard input",
-        Some(path) => path,
+        None | Some("-") => Cow::Borrowed("standard input"),
+        Some(path) => one_line(path),
     }
 }
 
@@ -291,8 +310,8 @@ fn bundle_bytes(path: Option<&str>) -> Result<Vec<u8>, Failure> {
 
 fn output(path: Option<&str>, bytes: &[u8]) -> Result<(), Failure> {
     let place = match path {
-        None | Some("-") => "standard output",
-        Some(path) => path,
+        None | Some("-") => Cow::Borrowed("standard output"),
+        Some(path) => one_line(path),
     };
     files::write(path, bytes).map_err(|error| match error {
         FileError::Gone => (String::new(), FAILED),
@@ -305,7 +324,11 @@ fn text_from(path: Option<&str>) -> Result<Text, Failure> {
 }
 
 fn parse_file(path: Option<&str>, bytes: Vec<u8>) -> Result<Text, Failure> {
-    let failure = |message: String| (format!("{}: {message}", label(path)), FAILED);
+    let hint = match is_bundle(&bytes) {
+        true => "; the file looks like a bundle, and a text is due",
+        false => "",
+    };
+    let failure = |message: String| (format!("{}: {message}{hint}", label(path)), FAILED);
     let text = String::from_utf8(bytes).map_err(|error| {
         let position = error.utf8_error().valid_up_to();
         failure(format!(
@@ -412,20 +435,70 @@ fn run_explain(arguments: &Arguments) -> Result<u8, Failure> {
     })
 }
 
+/// Says why the library refuses a bundle, in the words of `explain`.
+fn tell_refusal(
+    arguments: &Arguments,
+    bytes: &[u8],
+    source: &Source,
+    refusal: Refusal,
+) -> Result<u8, Failure> {
+    let report = Report::Refused(refusal.number());
+    let parts = explain(bytes, &report, source).map_err(|message| (message, FAILED))?;
+    // Words are no picture, so they go to standard error then.
+    if arguments.svg {
+        return Err((parts.collect(), REFUSED));
+    }
+    for part in parts {
+        output(None, part.as_bytes())?;
+    }
+    Ok(REFUSED)
+}
+
+fn run_chain(arguments: &Arguments) -> Result<u8, Failure> {
+    let (bytes, source) = set_and_source(arguments)?;
+    let failure = |message: String| (message, FAILED);
+    if let Err(refusal) = layout::accept(&bytes) {
+        return tell_refusal(arguments, &bytes, &source, refusal);
+    }
+    let bundle = accepted(&bytes).map_err(failure)?;
+    let end = |word: &Option<String>| name_of(arguments, word.as_deref(), &source);
+    let (from, to) = (end(&arguments.name)?, end(&arguments.to)?);
+    let search = Search::new(&bundle, &bytes, from, to).map_err(failure)?;
+    output(None, search.words(&source.names).as_bytes())?;
+    Ok(0)
+}
+
+/// The number of a name that is asked about; it need not be in the set.
+fn name_of(arguments: &Arguments, word: Option<&str>, source: &Source) -> Result<Name, Failure> {
+    let word = word.unwrap_or_default();
+    source.names.find(word).ok_or_else(|| {
+        let hint = match word.starts_with('#') {
+            true => "; a number from 0 to 65535 is due behind the #".to_string(),
+            false => unnamed_hint(arguments, word, source),
+        };
+        let (place, word) = (label(arguments.file.as_deref()), cut(word));
+        (format!("{place}: `{word}` is no name{hint}"), FAILED)
+    })
+}
+
+/// Where a word is no name, and what can be given in its place.
+fn unnamed_hint(arguments: &Arguments, word: &str, source: &Source) -> String {
+    let hint = unknown_hint(arguments, word, source);
+    match &arguments.names {
+        None if hint.is_empty() => {
+            " in this set; give a name of the set, or # and a number".to_string()
+        }
+        None => format!(" in this set{hint}"),
+        Some(_) if source.names.is_empty() || is_number(word) => hint,
+        Some(_) => format!("{hint}: give one of them, or # and a number"),
+    }
+}
+
 fn run_sizes(arguments: &Arguments) -> Result<u8, Failure> {
     let (bytes, source) = set_and_source(arguments)?;
     let failure = |message: String| (message, FAILED);
     if let Err(refusal) = layout::accept(&bytes) {
-        let report = Report::Refused(refusal.number());
-        let parts = explain(&bytes, &report, &source).map_err(failure)?;
-        // Words are no picture, so they go to standard error then.
-        if arguments.svg {
-            return Err((parts.collect(), REFUSED));
-        }
-        for part in parts {
-            output(None, part.as_bytes())?;
-        }
-        return Ok(REFUSED);
+        return tell_refusal(arguments, &bytes, &source, refusal);
     }
     let bundle = accepted(&bytes).map_err(failure)?;
     let mut sizes = Sizes::new(&bundle, &bytes, &source);
@@ -454,13 +527,33 @@ fn accepted(bytes: &[u8]) -> Result<Bundle, String> {
     }
 }
 
+/// Whether a word is a number without its sign.
+fn is_number(word: &str) -> bool {
+    !word.is_empty() && word.bytes().all(|byte| byte.is_ascii_digit())
+}
+
+/// How a name can be given that is not known, and where the words for names are from if that is not the set.
+fn unknown_hint(arguments: &Arguments, name: &str, source: &Source) -> String {
+    let number = "write #17 for name 17";
+    let none = source.names.is_empty();
+    match arguments.names.as_deref() {
+        // A number is the same with all words.
+        _ if name.starts_with('#') => String::new(),
+        _ if is_number(name) && !none => format!("; {number}"),
+        None if none => format!("; no words are known for its names: {number}, or give --names"),
+        None => String::new(),
+        given => {
+            let end = match none {
+                true => format!(", which has none: {number}"),
+                false => String::new(),
+            };
+            format!("; the names are those of {} (--names){end}", label(given))
+        }
+    }
+}
+
 fn undefined(arguments: &Arguments, name: &str, source: &Source) -> Failure {
-    let digits = !name.is_empty() && name.bytes().all(|byte| byte.is_ascii_digit());
-    let hint = match (source.names.is_empty() && !name.starts_with('#'), digits) {
-        (true, _) => "; no words are known for its names: write #17 for name 17, or give --names",
-        (false, true) => "; write #17 for name 17",
-        (false, false) => "",
-    };
+    let hint = unknown_hint(arguments, name, source);
     let (place, name) = (label(arguments.file.as_deref()), cut(name));
     (format!("{place}: `{name}` has no definition{hint}"), FAILED)
 }

@@ -61,7 +61,9 @@ impl Names {
     /// The number that a word has, or that `#17` says.
     pub fn find(&self, word: &str) -> Option<Name> {
         match word.strip_prefix('#') {
-            Some(digits) => digits.parse().ok(),
+            // A sign is no digit.
+            Some(digits) if digits.bytes().all(|byte| byte.is_ascii_digit()) => digits.parse().ok(),
+            Some(_) => None,
             None => self.numbers.get(word).copied(),
         }
     }

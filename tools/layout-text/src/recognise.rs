@@ -14,5 +14,10 @@ pub fn is_text(start: &[u8]) -> bool {
         Err(error) => std::str::from_utf8(&start[..error.valid_up_to()]).unwrap_or_default(),
     };
     let fits = |letter: char| letter.is_whitespace() || !letter.is_control();
-    start.first().is_some_and(|first| *first != HEADER) && letters.chars().all(fits)
+    !start.is_empty() && !is_bundle(start) && letters.chars().all(fits)
+}
+
+/// Whether a file that starts so starts as every bundle does, and no text.
+pub fn is_bundle(start: &[u8]) -> bool {
+    start.first() == Some(&HEADER)
 }

@@ -68,17 +68,38 @@ pub const GROUPS: [(&str, GroupKind); 4] = [
 /// The most letters that a message repeats of a word from the input.
 const QUOTED: usize = 40;
 
-/// A word from the input for a message: the whole word, or its start and an ellipsis.
+/// A word from the input for a message: the whole word, or its start and an ellipsis, on one line.
 pub fn cut(word: &str) -> Cow<'_, str> {
-    cut_to(word, QUOTED)
+    match cut_to(word, QUOTED) {
+        Cow::Borrowed(word) => one_line(word),
+        Cow::Owned(start) => Cow::Owned(one_line(&start).into_owned()),
+    }
 }
 
-/// The same with so many letters at the most.
+/// The whole word, or so many letters of it and an ellipsis, as they are.
 pub fn cut_to(word: &str, most: usize) -> Cow<'_, str> {
     match word.char_indices().nth(most) {
         None => Cow::Borrowed(word),
         Some((end, _)) => Cow::Owned(format!("{}…", &word[..end])),
     }
+}
+
+/// A word with its control characters, and what else ends or turns a line, as `\n` or `\u{1b}`. A backslash is `\\`,
+/// so that no other word looks so.
+pub fn one_line(word: &str) -> Cow<'_, str> {
+    let turns = |letter| matches!(letter, '\u{2028}'..='\u{202e}' | '\u{2066}'..='\u{2069}');
+    let escaped = |letter: char| letter == '\\' || letter.is_control() || turns(letter);
+    if !word.contains(escaped) {
+        return Cow::Borrowed(word);
+    }
+    let mut line = String::new();
+    for letter in word.chars() {
+        match escaped(letter) {
+            true => line.extend(letter.escape_debug()),
+            false => line.push(letter),
+        }
+    }
+    Cow::Owned(line)
 }
 
 /// A number of things: `1 edge`, `2 edges`.

@@ -283,18 +283,142 @@ for size in '4u8 *' '4u8 * 300u8' '4 x 3' '4u8 * 3u8 + 1u8' ''; do
   wrong 'line 1, column ' sizes "$work/wrong.layout"
 done
 
-# The examples of sizes in README.md.
-rm -f "$work"/example-*
-awk -v work="$work" '
-  sub(/^    \$ layout-text sizes /, "") { file = work "/example-" ++n; print > (file ".words"); next }
-  /^$/ { file = "" }
-  file { print substr($0, 5) > file }' tools/layout-text/README.md
-examples=0
-for example in "$work"/example-*.words; do
-  examples=$((examples + 1))
-  "$tool" sizes $(cat "$example") 2>&1 | cmp -s - "${example%.words}" || fail "the example $(cat "$example") of README.md"
+# Chains: by words and numbers, from text and bytes, several ways of one length, none, a name to itself, and what is no name.
+cat > "$work/chain.layout" <<'CHAIN'
+name far = 700
+define a struct {}
+define d array [3u8] u8
+edge a -> b type
+edge a -> c type
+edge c -> d size
+edge b -> d tag
+edge d -> e type
+edge e -> a type
+edge z -> far type
+CHAIN
+"$tool" assemble "$work/chain.layout" > "$work/chain.bundle"
+expect 0 'a -> b -> d -> e' chain "$work/chain.layout" a e
+expect 0 'The search followed the edges of 4 names.' chain "$work/chain.layout" a e
+expect 0 'Edges lead from `a`, directly or through others, to 4 other names.' chain "$work/chain.layout" a e
+expect 0 'The search followed the edges of 1 name.' chain "$work/chain.layout" a c
+expect 0 'a -> b -> d -> e' chain "$work/chain.bundle" a e --names "$work/chain.layout"
+expect 0 '#1 -> #3 -> #2 -> #5' chain "$work/chain.bundle" '#1' '#5'
+expect 0 'a -> b -> d -> e' chain "$work/chain.layout" '#1' '#0005'
+expect 0 'z -> far' chain "$work/chain.layout" z '#700'
+expect 0 'Edges lead from `z`, directly or through others, to 1 other name.' chain "$work/chain.layout" z far
+expect 0 'No chain leads from `a` to `z`.' chain "$work/chain.layout" a z
+expect 0 'The search followed the edges of 5 names.' chain "$work/chain.layout" a z
+expect 0 'No chain leads from `#0` to `#65535`.' chain "$work/chain.layout" '#0' '#65535'
+expect 0 'No edge leads from `#0` to another name.' chain "$work/chain.layout" '#0' '#65535'
+expect 0 'The search followed no edges.' chain "$work/chain.layout" e e
+expect 0 'The search followed no edges.' chain "$work/chain.layout" '#9' '#9'
+cp "$work/chain.layout" "$work/input"
+expect 0 'a -> b -> d -> e' chain - a e
+expect 0 'a -> b -> d -> e' chain - a e --text
+expect 0 'a -> b -> d -> e' chain --names - "$work/chain.bundle" a e
+expect 2 'Refused: stranger (3)' chain - a e --bytes
+due='is no name in this set; give a name of the set, or # and a number'
+wrong "\`nowhere\` $due" chain "$work/chain.layout" nowhere a
+wrong "\`nowhere\` $due" chain "$work/chain.layout" a nowhere
+wrong "\`\` $due" chain "$work/chain.layout" '' a
+wrong "\`\` $due" chain "$work/chain.layout" a ''
+wrong "\`-\` $due" chain "$work/chain.layout" a -
+wrong '`1` is no name in this set; write #17 for name 17' chain "$work/chain.layout" a 1
+for name in '#' '#65536' '#+1' '#x' '#1 ' '##1'; do
+  wrong "\`$name\` is no name; a number from 0 to 65535 is due behind the #" chain "$work/chain.layout" a "$name"
 done
-[ "$examples" -eq 5 ] || fail "$examples examples of sizes in README.md"
+wrong '7777…` is no name in this set; write #17 for name 17' chain "$work/chain.layout" a "$(printf '%0999d' 0 | tr 0 7)"
+wrong 'no words are known for its names: write #17 for name 17, or give --names' chain "$work/chain.bundle" a e
+wrong '`` is no name in this set; no words are known for its names: write #17' chain "$work/chain.bundle" '' '#1'
+# Control characters, and what else would end or turn the line.
+odd=$(printf 'a\nb\033[2J\302\205\342\200\256\\')
+line='`a\nb\u{1b}[2J\u{85}\u{202e}\\`'
+wrong "$line $due" chain "$work/chain.layout" "$odd" a
+wrong "$line $due" chain "$work/chain.layout" a "$odd"
+wrong "\`#\\n1\` is no name; a number from 0" chain "$work/chain.layout" a "$(printf '#\n1')"
+wrong "$line has no definition" sizes "$work/sizes.layout" "$odd"
+wrong "$line is one argument too many" chain "$work/chain.layout" a b "$odd"
+wrong "$line is no verb" "$odd"
+wrong 'none\nfile: cannot be read: No such file' chain "$(printf 'none\nfile')" a b
+wrong 'none\nfile/x: cannot be written: No such file' assemble "$work/chain.layout" -o "$(printf 'none\nfile/x')"
+printf 'define \033 u8' > "$work/plain"
+wrong 'column 8: `\u{1b}` has no meaning here' assemble "$work/plain"
+# Names that are not the set's own.
+printf 'name zebra = 5' > "$work/zebra"
+due="the names are those of $work/zebra (--names)"
+wrong "\`a\` is no name; $due: give one of them, or # and a number" \
+  chain "$work/chain.layout" a e --names "$work/zebra"
+wrong "\`a\` is no name; $due: give one of them, or # and a number" \
+  chain "$work/chain.bundle" zebra a --names "$work/zebra"
+wrong '`1` is no name; write #17 for name 17' chain "$work/chain.layout" 1 zebra --names "$work/zebra"
+wrong '`#x` is no name; a number from 0 to 65535 is due' chain "$work/chain.layout" '#x' zebra --names "$work/zebra"
+expect 0 '#1 -> #3 -> #2 -> zebra' chain "$work/chain.layout" '#1' zebra --names "$work/zebra"
+wrong "\`cell\` has no definition; $due" sizes "$work/sizes.layout" cell --names "$work/zebra"
+wrong "\`zebra\` has no definition; $due" sizes "$work/sizes.bundle" zebra --names "$work/zebra"
+wrong '`#77` has no definition' sizes "$work/sizes.layout" '#77' --names "$work/zebra"
+grep -q 'names' "$work/printed" && fail 'a number is told to depend on --names'
+printf '// nothing' > "$work/zebra"
+for verb in "chain $work/chain.layout cell #1" "sizes $work/sizes.layout cell"; do
+  wrong "$due, which has none: write #17 for name 17" $verb --names "$work/zebra"
+done
+printf 'name zebra = 5' > "$work/input"
+wrong 'the names are those of standard input (--names)' chain "$work/chain.layout" a e --names -
+# A bundle where a text is due.
+due='; the file looks like a bundle, and a text is due'
+for verb in "chain $work/chain.layout a e" "sizes $work/sizes.layout" "explain $work/chain.bundle" "show $work/chain.bundle"; do
+  wrong "$work/sizes.bundle: line 1, column 1: \`\`\` has no meaning here$due" $verb --names "$work/sizes.bundle"
+done
+wrong "$due" assemble "$work/chain.bundle"
+wrong "$due" chain "$work/chain.bundle" a e --text
+printf '`\377' > "$work/cut"
+wrong "no text: byte 1 starts no letter of UTF-8$due" assemble "$work/cut"
+printf '\377' > "$work/cut"
+wrong 'no text: byte 0 starts no letter of UTF-8' assemble "$work/cut"
+grep -q 'bundle, and' "$work/printed" && fail 'other bytes are taken for a bundle'
+wrong '`chain` needs FILE, FROM and TO' chain
+wrong '`chain` needs FILE, FROM and TO' chain "$work/chain.layout"
+wrong '`chain` needs FILE, FROM and TO' chain "$work/chain.layout" a
+wrong '`more` is one argument too many' chain "$work/chain.layout" a b more
+wrong 'wrong argument `-o`' chain "$work/chain.layout" a b -o "$work/words"
+wrong 'wrong argument `--svg`' chain "$work/chain.layout" a b --svg
+wrong '`--text` is given twice' chain "$work/chain.layout" a b --text --text
+wrong '`--text` and `--bytes` are both given' chain "$work/chain.layout" a b --text --bytes
+wrong '`--names` needs a file' chain "$work/chain.layout" a b --names
+wrong 'standard input is asked for twice' chain - a b --names -
+wrong 'cannot be read: No such file' chain "$work/none" a b
+expect 0 'layout-text chain' chain --help
+expect 2 'Refused: circle (8)' chain samples/refused-circle.layout winch_frame nowhere
+expect 2 'Reading stopped at byte' chain samples/refused-buried.layout a b
+head -c 30 "$work/chain.bundle" > "$work/cut"
+expect 2 'Refused: short (2)' chain "$work/cut" '#1' '#2'
+: > "$work/cut"
+expect 2 'Refused: short (2)' chain "$work/cut" '#1' '#2'
+head -c 32769 /dev/zero > "$work/cut"
+expect 2 'Refused: overlong (1)' chain "$work/cut" '#1' '#2'
+printf 'edge a -> b' > "$work/wrong.layout"
+wrong 'line 1, column ' chain "$work/wrong.layout" a b
+
+# The examples of README.md. examples VERB COUNT: those of a verb, and how many there are.
+examples() {
+  rm -f "$work"/example-*
+  awk -v work="$work" -v verb="$1" '
+    /^    \$ layout-text / { file = "" }
+    index($0, "    $ layout-text " verb " ") == 1 {
+      file = work "/example-" ++n
+      print substr($0, length(verb) + 20) > (file ".words")
+      next
+    }
+    /^$/ { file = "" }
+    file { print substr($0, 5) > file }' tools/layout-text/README.md
+  found=0
+  for example in "$work"/example-*.words; do
+    found=$((found + 1))
+    "$tool" "$1" $(cat "$example") 2>&1 | cmp -s - "${example%.words}" || fail "the example $1 $(cat "$example") of README.md"
+  done
+  [ "$found" -eq "$2" ] || fail "$found examples of $1 in README.md"
+}
+examples chain 3
+examples sizes 5
 
 # Pictures: to a file or to standard output; words where there is none to draw.
 expect 0 - sizes "$work/sizes.layout" cell --svg -o "$work/picture.svg"
@@ -413,6 +537,8 @@ for place in /dev/full closed; do
   lost $place "$full" sizes "$work/bundle"
   lost $place "$full" sizes "$work/sizes.layout" cell
   lost $place "$full" sizes "$work/sizes.layout" cell --svg
+  lost $place "$full" chain "$work/chain.layout" a c
+  lost $place "$full" chain samples/refused-circle.layout a b
 done
 expect 3 '/dev/full: cannot be written: No space left on device' assemble -o /dev/full
 expect 3 '/dev/full: cannot be written: No space left on device' show "$work/bundle" -o /dev/full
@@ -439,6 +565,10 @@ pub unsafe extern "C" fn layout_report() -> u8 {
     abort()
 }
 #[no_mangle]
+pub unsafe extern "C" fn layout_chain_followed() -> u8 {
+    abort()
+}
+#[no_mangle]
 pub unsafe extern "C" fn layout_fixed_size() -> u8 {
     abort()
 }
@@ -461,17 +591,18 @@ for sample in winch type-1-enum-forward refused-circle; do
 done
 (ulimit -c 0; "$work/mute" explain samples/winch.layout; echo $? > "$work/code") > "$work/words" 2>&1
 [ "$(cat "$work/code")" -ge 128 ] || fail 'the library without answers was not linked'
-# other FIXED VALUE: the program over a library that accepts every set, and answers so to every other call.
+# other FIXED VALUE CHAIN: the program over a library that accepts every set, and answers so to every other call.
 other() {
   sed "s/layout_accept() -> u8 {/layout_accept() -> u8 { return 0;/
     s/layout_fixed_size() -> u8 {/layout_fixed_size() -> u8 { return $1;/
-    s/layout_size_value() -> u8 {/layout_size_value() -> u8 { return $2;/" "$work/mute.rs" > "$work/other.rs"
+    s/layout_size_value() -> u8 {/layout_size_value() -> u8 { return $2;/
+    s/layout_chain_followed() -> u8 {/layout_chain_followed() -> u8 { return $3;/" "$work/mute.rs" > "$work/other.rs"
   rustc --edition 2021 -A unreachable_code -C panic=abort --crate-type lib --emit obj -o "$work/other.o" "$work/other.rs" &&
     rustc --edition 2021 -L "$target" --extern layout --extern layout_text -C "link-arg=$work/other.o" -o "$work/other" \
       tools/layout-text/src/main.rs || fail 'the program over a library with other answers was not built'
 }
 # A library that answers otherwise than the evaluation of a size: no number of it is told.
-other 11 13
+other 11 13 9
 for name in samples frame; do
   "$work/other" sizes "$work/sizes.layout" $name > "$work/words" 2> "$work/printed"
   [ $? -eq 3 ] && [ ! -s "$work/words" ] && grep -q \
@@ -482,8 +613,15 @@ done
 [ $? -eq 3 ] && [ ! -s "$work/words" ] && grep -q 'and the evaluation finds the value -2$' "$work/printed" ||
   fail 'a value that the library refuses is told'
 "$work/other" sizes "$work/sums.layout" divided | grep -q 'zero divisor (13)' || fail 'a number on which both agree is not told'
+# A library that accepts a set and refuses a search in it: nothing of it is told.
+"$work/other" chain "$work/chain.layout" a c > "$work/words" 2> "$work/printed"
+[ $? -eq 3 ] && [ ! -s "$work/words" ] && grep -q 'accepts the bundle and refuses a search in it: narrow (9)' "$work/printed" ||
+  fail 'a search that is refused in an accepted set is told'
 # A library that answers otherwise than the walk over the set: no number of it is told.
-other 12 13
+other 12 13 0
+"$work/other" chain "$work/chain.layout" a c > "$work/words" 2> "$work/printed"
+[ $? -eq 3 ] && [ ! -s "$work/words" ] && grep -q "the library's answers about #1 to #4 and to #0, which no edge has, do not agree" \
+  "$work/printed" || fail 'a search whose count is 0 for all names is told'
 for name in cell frame; do
   "$work/other" sizes "$work/sizes.layout" $name > "$work/words" 2> "$work/printed"
   [ $? -eq 3 ] && [ ! -s "$work/words" ] && grep -q 'the library answers oversized (12)' "$work/printed" ||
@@ -530,7 +668,7 @@ script() {
   done
 }
 script tools/layout-text/build.sh 1
-script tools/layout-text/test.sh 3
+script tools/layout-text/test.sh 4
 script samples/check.sh 1
 script bindings/rust/test.sh 1
 for due in "$copy/my library.a" -no-pie -lm; do

@@ -1,7 +1,11 @@
 //! Random bundles of the oracle's generator, sound and damaged, and damaged texts.
 
+use layout_oracle::followed::Chains;
 use layout_oracle::random::Random;
-use layout_oracle::{bundle, damage, fixed_generate, generate, reader};
+use layout_oracle::{
+    bundle, damage, fixed_generate, followed_cases, followed_generate, generate, reader,
+};
+use layout_text::chain::Search;
 use layout_text::encode::encode;
 use layout_text::explain::{explain, Source};
 use layout_text::names::Names;
@@ -224,6 +228,44 @@ fn every_value_can_be_told() {
         fixed > 1_000 && valued > 1_000 && refused.iter().all(|count| *count > 300),
         "{fixed}, {valued}, {refused:?}"
     );
+}
+
+#[test]
+fn chains_have_the_oracle_s_names_and_counts() {
+    let mut random = Random::new(7);
+    let (mut found, mut none) = (0, 0);
+    for _ in 0..ROUNDS {
+        let sound = followed_generate::searched(&mut random);
+        let from = followed_cases::some_start(&mut random, &sound);
+        let chains = Chains::new(&sound, from);
+        let to = followed_cases::some_end(&mut random, &sound, &chains);
+        let bytes = bundle::encode(&sound);
+        let tree = read(&bytes).expect("a sound bundle");
+        let search = Search::new(&tree, &bytes, from, to).unwrap();
+        let words = search.words(&Names::default());
+        let due = chains.to(to);
+        let names: Vec<String> = due.names.iter().map(|name| format!("#{name}")).collect();
+        let chain = match names.is_empty() {
+            true => format!("No chain leads from `#{from}` to `#{to}`.\n"),
+            false => names.join(" -> ") + "\n",
+        };
+        let followed = match due.followed {
+            0 => "followed no edges.".to_string(),
+            1 => "followed the edges of 1 name.".to_string(),
+            count => format!("followed the edges of {count} names."),
+        };
+        let others = match chains.reached() {
+            1 => "No edge leads ".to_string(),
+            2 => " to 1 other name.".to_string(),
+            reached => format!(" to {} other names.", reached - 1),
+        };
+        assert!(words.starts_with(&chain), "{words}\n{chain}");
+        assert!(words.contains(&followed), "{words}\n{followed}");
+        assert!(words.contains(&others), "{words}\n{others}");
+        found += usize::from(names.len() > 1);
+        none += usize::from(names.is_empty());
+    }
+    assert!(found > 1_000 && none > 300, "{found}, {none}");
 }
 
 #[test]

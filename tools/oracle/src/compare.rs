@@ -2,9 +2,13 @@
 //! program or a library.
 
 use crate::bundle::*;
+use crate::followed::Chains;
 use crate::random::Random;
 use crate::report::{program_bytes, report_bytes, Violation};
-use crate::{damage, generate, limits, original, reader, reference, scan, work};
+use crate::{
+    damage, followed_cases, followed_generate, generate, limits, original, reader, reference, scan,
+    work,
+};
 use std::collections::BTreeMap;
 use std::fmt;
 
@@ -248,13 +252,37 @@ fn compare_chain(random: &mut Random, bundle: &Bundle, bytes: &[u8]) -> Result<(
     };
     let from = bundle.edges[random.below(last + 1)].from;
     let to = bundle.edges[random.below(last + 1)].to;
+    compare_search(bundle, bytes, from, to)
+}
+
+/// The original's chain, that of the second reading, and the one that names are counted by.
+fn compare_search(bundle: &Bundle, bytes: &[u8], from: Name, to: Name) -> Result<(), Difference> {
     let list = |chain: Option<Vec<Name>>| -> Vec<u8> {
         let names = chain.unwrap_or_default();
         names.iter().flat_map(|name| name.to_le_bytes()).collect()
     };
     let expected = list(original::chain(bundle, from, to));
     let found = list(reference::chain(bundle, from, to));
-    equal("chain", bytes, expected, found)
+    let by_lists = Chains::new(bundle, from).to(to).names;
+    equal("chain", bytes, expected.clone(), found)?;
+    let found = list(Some(by_lists));
+    equal("chain of a count", bytes, expected, found)
+}
+
+/// The same on bundles made for searches, between names that are chosen for them. How many
+/// had a chain.
+pub fn compare_searches(seed: u64, count: usize) -> Result<usize, Difference> {
+    let mut random = Random::new(seed);
+    let mut found = 0;
+    for _ in 0..count {
+        let bundle = followed_generate::searched(&mut random);
+        let from = followed_cases::some_start(&mut random, &bundle);
+        let chains = Chains::new(&bundle, from);
+        let to = followed_cases::some_end(&mut random, &bundle, &chains);
+        compare_search(&bundle, &encode(&bundle), from, to)?;
+        found += usize::from(!chains.to(to).names.is_empty());
+    }
+    Ok(found)
 }
 
 /// The tree's renumbering against that of the bytes, and the original's report

@@ -1,15 +1,21 @@
 //! Commands over the original validators; README.md lists them.
 
 use layout_oracle::cases::{cases, Case};
-use layout_oracle::compare::{compare_answers, compare_readings, hex, Difference, Tally};
+use layout_oracle::compare::{
+    compare_answers, compare_readings, compare_searches, hex, Difference, Tally,
+};
 use layout_oracle::fixed::fixed_answer;
 use layout_oracle::fixed_cases::{fixed_cases, FixedCase};
+use layout_oracle::followed::followed_answer;
+use layout_oracle::followed_cases::{followed_cases, FollowedCase};
 use layout_oracle::limits::edge_cases;
 use layout_oracle::reader;
 use layout_oracle::report::{program_bytes, report_bytes};
 use layout_oracle::value::value_answer;
 use layout_oracle::value_cases::{value_cases, ValueCase};
-use layout_oracle::{bundle, fixed_examples, original, reference, repr_c, value_examples, work};
+use layout_oracle::{
+    bundle, fixed_examples, followed_examples, original, reference, repr_c, value_examples, work,
+};
 use std::io::{self, Read, Write};
 use std::process::{Command, ExitCode, Stdio};
 use std::time::Instant;
@@ -18,6 +24,7 @@ const USAGE: &str = "usage:
   oracle report < bundle > report
   oracle renumber < bundle > bundle
   oracle chain FROM TO < bundle
+  oracle followed FROM TO < bundle
   oracle fixed DEFINITION < bundle
   oracle value DEFINITION < bundle
   oracle self SEED COUNT
@@ -26,6 +33,7 @@ const USAGE: &str = "usage:
   oracle edgecases
   oracle fixedcases SEED COUNT
   oracle valuecases SEED COUNT
+  oracle followedcases SEED COUNT
   oracle reprc-source SEED COUNT > program.rs
   oracle reprc SEED COUNT < output of the program";
 
@@ -33,32 +41,30 @@ fn main() -> ExitCode {
     let arguments: Vec<String> = std::env::args().skip(1).collect();
     let words: Vec<&str> = arguments.iter().map(String::as_str).collect();
     let done = match words.as_slice() {
-        ["report"] => report(),
-        ["renumber"] => renumber(),
+        ["report"] => Some(report()),
+        ["renumber"] => Some(renumber()),
         ["chain", from, to] => number(from).zip(number(to)).map(|(f, t)| chain(f, t)),
+        ["followed", from, to] => name(from).zip(name(to)).map(|(f, t)| followed(f, t)),
         ["fixed", definition] => number(definition).map(fixed),
         ["value", definition] => number(definition).map(value),
-        ["self", seed, count] => number(seed)
-            .zip(number(count))
-            .map(|(seed, count)| finish(|| compare_self(seed, count as usize))),
-        ["program", path, seed, count] => number(seed)
-            .zip(number(count))
-            .map(|(seed, count)| finish(|| program(path, seed, count as usize))),
-        ["cases", seed, count] => number(seed)
-            .zip(number(count))
-            .map(|(seed, count)| print_cases(&cases(seed, count as usize))),
-        ["fixedcases", seed, count] => number(seed)
-            .zip(number(count))
-            .map(|(seed, count)| print_fixed_cases(&fixed_cases(seed, count as usize))),
-        ["valuecases", seed, count] => number(seed)
-            .zip(number(count))
-            .map(|(seed, count)| print_value_cases(&value_cases(seed, count as usize))),
-        ["reprc-source", seed, count] => number(seed)
-            .zip(number(count))
-            .and_then(|(seed, count)| output(repr_c::source(seed, count as usize).as_bytes())),
-        ["reprc", seed, count] => number(seed)
-            .zip(number(count))
-            .map(|(seed, count)| compare_repr_c(seed, count as usize)),
+        ["self", seed, count] => seeded(seed, count, |s, c| finish(|| compare_self(s, c))),
+        ["program", path, seed, count] => {
+            seeded(seed, count, |s, c| finish(|| program(path, s, c)))
+        }
+        ["cases", seed, count] => seeded(seed, count, |s, c| print_cases(&cases(s, c))),
+        ["fixedcases", seed, count] => {
+            seeded(seed, count, |s, c| print_fixed_cases(&fixed_cases(s, c)))
+        }
+        ["valuecases", seed, count] => {
+            seeded(seed, count, |s, c| print_value_cases(&value_cases(s, c)))
+        }
+        ["followedcases", seed, count] => seeded(seed, count, |s, c| {
+            print_followed_cases(&followed_cases(s, c))
+        }),
+        ["reprc-source", seed, count] => {
+            seeded(seed, count, |s, c| output(repr_c::source(s, c).as_bytes()))
+        }
+        ["reprc", seed, count] => seeded(seed, count, compare_repr_c),
         ["edgecases"] => Some(print_cases(&edge_cases())),
         _ => None,
     };
@@ -68,7 +74,17 @@ fn main() -> ExitCode {
     })
 }
 
+/// Runs a command with its two numbers, if they are numbers.
+fn seeded(seed: &str, count: &str, run: impl FnOnce(u64, usize) -> ExitCode) -> Option<ExitCode> {
+    let numbers = number(seed).zip(number(count));
+    numbers.map(|(seed, count)| run(seed, count as usize))
+}
+
 fn number(text: &str) -> Option<u64> {
+    text.parse().ok()
+}
+
+fn name(text: &str) -> Option<bundle::Name> {
     text.parse().ok()
 }
 
@@ -78,12 +94,12 @@ fn input() -> Vec<u8> {
     bytes
 }
 
-fn output(bytes: &[u8]) -> Option<ExitCode> {
+fn output(bytes: &[u8]) -> ExitCode {
     io::stdout().write_all(bytes).expect("standard output");
-    Some(ExitCode::SUCCESS)
+    ExitCode::SUCCESS
 }
 
-fn report() -> Option<ExitCode> {
+fn report() -> ExitCode {
     let outcome = reader::read(&input()).map(|bundle| {
         if !work::within_limit(&bundle) {
             eprintln!("the original may take very long for this bundle");
@@ -93,7 +109,7 @@ fn report() -> Option<ExitCode> {
     output(&program_bytes(outcome))
 }
 
-fn renumber() -> Option<ExitCode> {
+fn renumber() -> ExitCode {
     let outcome = reader::read(&input());
     let renumbered = outcome.map(|bundle| bundle::encode(&reference::renumber(&bundle)));
     output(&program_bytes(renumbered))
@@ -106,6 +122,14 @@ fn chain(from: u64, to: u64) -> ExitCode {
             None => println!("none"),
             Some(names) => println!("{names:?}"),
         },
+    }
+    ExitCode::SUCCESS
+}
+
+fn followed(from: bundle::Name, to: bundle::Name) -> ExitCode {
+    match followed_answer(&input(), from, to, usize::MAX) {
+        Err(refusal) => println!("refused {refusal}"),
+        Ok(found) => println!("{} {:?}", found.followed, found.names),
     }
     ExitCode::SUCCESS
 }
@@ -166,6 +190,10 @@ fn compare_self(seed: u64, count: usize) -> Result<Tally, Difference> {
     println!("examples of fixed sizes  {checked}");
     let checked = value_examples::check().unwrap_or_else(|text| panic!("{text}"));
     println!("examples of values       {checked}");
+    let checked = followed_examples::check().unwrap_or_else(|text| panic!("{text}"));
+    println!("examples of counts       {checked}");
+    let found = compare_searches(seed, count)?;
+    println!("searches, with a chain   {count}, {found}");
     compare_readings(seed, count)
 }
 
@@ -229,6 +257,18 @@ fn print_fixed_cases(list: &[FixedCase]) -> ExitCode {
 fn print_value_cases(list: &[ValueCase]) -> ExitCode {
     let numbered = list.iter().map(|c| (c.definition, &c.bundle, &c.answer));
     print_numbered(numbered)
+}
+
+/// One case a line, with the two names first.
+fn print_followed_cases(list: &[FollowedCase]) -> ExitCode {
+    let mut out = io::BufWriter::new(io::stdout().lock());
+    for case in list {
+        let (from, to) = (case.from, case.to);
+        let bundle = bundle_text(&case.bundle);
+        let answer = hex(&case.answer);
+        writeln!(out, "{from} {to} {bundle} {answer}").expect("standard output");
+    }
+    ExitCode::SUCCESS
 }
 
 /// One case a line, with the number of the definition first.

@@ -10,10 +10,10 @@ use Rattle.chain.specs.Index.{Numbering}
 use Rattle.chain.proofs.Numbers.{name-read, numbering-none, numbering-more}
 
 abbrev Inv-loop : tie.InvT-loop
-Inv-loop bytes at count edges₀ names m₀ i₀ edges m i = (i ≤ 2 * count) × Numbering bytes at i count edges m × (length edges ≡ length edges₀)
+Inv-loop bytes at count turn edges₀ names m₀ i₀ edges m i = (i ≤ 2 * count) × Numbering bytes at turn i count edges m × (length edges ≡ length edges₀)
 
 abbrev μ-loop : tie.MeasureT-loop
-μ-loop bytes at count edges₀ names m₀ i₀ edges m i = 2 * count - i
+μ-loop bytes at count turn edges₀ names m₀ i₀ edges m i = 2 * count - i
 
 mul-names : tie.Need-mul-names Inv-loop μ-loop
 mul-names c = search needs
@@ -26,7 +26,7 @@ empty-requires c κs = search needs
 
 loop-holds : tie.Need-loop-holds Inv-loop μ-loop
 loop-holds c = let e = c .before .before .empty .ensures in
-    (omega arith, numbering-none _ _ (omega (arith, e .1 .size, c .before .before .before .before .before .before .pre .1)) (e .0), refl)
+    (omega arith, numbering-none _ _ _ (omega (arith, e .1 .size, c .before .before .before .before .before .before .pre .1)) (e .0), refl)
 
 mul-loop : tie.Need-mul-loop Inv-loop μ-loop
 mul-loop c = search needs
@@ -37,14 +37,17 @@ mul-u16-at c = search needs
 add-u16-at : tie.Need-add-u16-at Inv-loop μ-loop
 add-u16-at c = search needs
 
-mul-u16-at-2 : tie.Need-mul-u16-at-2 Inv-loop μ-loop
-mul-u16-at-2 c = search needs
-
 add-u16-at-2 : tie.Need-add-u16-at-2 Inv-loop μ-loop
 add-u16-at-2 c = search needs
 
+mul-u16-at-2 : tie.Need-mul-u16-at-2 Inv-loop μ-loop
+mul-u16-at-2 c = search needs
+
 add-u16-at-3 : tie.Need-add-u16-at-3 Inv-loop μ-loop
 add-u16-at-3 c = search needs
+
+add-u16-at-4 : tie.Need-add-u16-at-4 Inv-loop μ-loop
+add-u16-at-4 c = search needs
 
 u16-at-requires : tie.Need-u16-at-requires Inv-loop μ-loop
 u16-at-requires c κs = search needs
@@ -95,7 +98,7 @@ returns : tie.Need-returns Inv-loop μ-loop
 returns c = let a = c .before .before .before .before .before .before .before .before .args in
     let l = c .before .loop in
     let end : l .i ≡ 2 * a .count = omega arith in
-    subst (λ (k : ℕ). Numbering (a .bytes .now) (a .at) k (a .count) (l .edges) (l .m)) end (l .inv .1)
+    subst (λ (k : ℕ). Numbering (a .bytes .now) (a .at) (a .turn) k (a .count) (l .edges) (l .m)) end (l .inv .1)
 
 pub number-spec : {M : Type 1} → statement M
 number-spec =
@@ -110,9 +113,10 @@ number-spec =
     mul-loop
     mul-u16-at
     add-u16-at
-    mul-u16-at-2
     add-u16-at-2
+    mul-u16-at-2
     add-u16-at-3
+    add-u16-at-4
     u16-at-requires
     enter-requires
     grow-requires

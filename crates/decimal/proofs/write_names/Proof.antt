@@ -9,10 +9,10 @@ use Rattle.decimal.proofs.DecimalLaws.{line-size}
 use Rattle.decimal.proofs.Writing.{Listing, listing-start, listing-next, listing-end}
 
 abbrev Inv-loop : tie.InvT-loop
-Inv-loop list n out₀ at₀ i₀ out at i = Listing 6 0 list n out₀ out at i
+Inv-loop list n out₀ first at₀ i₀ out at i = Listing 6 first list n out₀ out at i
 
 abbrev μ-loop : tie.MeasureT-loop
-μ-loop list n out₀ at₀ i₀ out at i = n - i
+μ-loop list n out₀ first at₀ i₀ out at i = n - i
 
 loop-holds : tie.Need-loop-holds Inv-loop μ-loop
 loop-holds c = listing-start _ _ _ _ _ (omega (arith, c .before .before .pre .1))

@@ -5,9 +5,9 @@ use Rattle.find_chain.proofs.chain_long.Tie as tie
 use Prim.Native.Nat.{ℕ}
 use native.Mathlib.Omega.{arith}
 use lib.ListN.{length-replicate}
-use Rattle.meaning.specs.Due.{chaining}
 use Rattle.bundle.proofs.AnswerLaws.{opened-layout, opened-refused}
-use Rattle.chain.proofs.Called.{called, turned-down, has-edges}
+use Rattle.chain.proofs.Called.{has-edges}
+use Rattle.find_chain.proofs.Answering.{called, turned-down}
 
 slice-aggregate-open : tie.Need-slice-aggregate-open
 slice-aggregate-open c = search needs
@@ -31,8 +31,7 @@ returns : tie.Need-returns
 returns c = let o = opened-layout _ _ _ _ (c .before .before .before .before .before .before .before .before .«open» .ensures) (c .before .before .before .before .before .opening .given .1) in called _ _ (o .0) (o .1) (c .before .before .find-many .ensures)
 
 returns-2 : tie.Need-returns-2
-unfolding chaining
-returns-2 c = turned-down _ (opened-refused _ _ _ _ (c .before .before .before .before .«open» .ensures) (c .before .opening2 .given .1) _)
+returns-2 c = turned-down _ _ _ (opened-refused _ _ _ _ (c .before .before .before .before .«open» .ensures) (c .before .opening2 .given .1))
 
 pub chain-long-spec : {M : Type 1} → statement M
 chain-long-spec =

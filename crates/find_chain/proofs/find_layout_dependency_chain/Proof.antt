@@ -5,9 +5,9 @@ use Rattle.find_chain.proofs.find_layout_dependency_chain.Tie as tie
 use Prim.Native.Nat.{ℕ}
 use native.Mathlib.Omega.{arith}
 use lib.ListN.{length-replicate}
-use Rattle.meaning.specs.Due.{chaining}
 use Rattle.bundle.proofs.AnswerLaws.{opened-layout, opened-refused}
-use Rattle.chain.proofs.Called.{called, turned-down, has-edges}
+use Rattle.chain.proofs.Called.{has-edges}
+use Rattle.find_chain.proofs.Answering.{called, turned-down}
 
 chain-long-requires : tie.Need-chain-long-requires
 chain-long-requires c κs = search needs
@@ -49,8 +49,7 @@ returns-3 : tie.Need-returns-3
 returns-3 c = let o = opened-layout _ _ _ _ (c .before .before .before .before .before .before .before .before .before .before .«open» .ensures) (c .before .before .before .before .before .before .before .opening .given .1) in called _ _ (o .0) (o .1) (c .before .before .find-few .ensures)
 
 returns-4 : tie.Need-returns-4
-unfolding chaining
-returns-4 c = turned-down _ (opened-refused _ _ _ _ (c .before .before .before .before .«open» .ensures) (c .before .opening2 .given .1) _)
+returns-4 c = turned-down _ _ _ (opened-refused _ _ _ _ (c .before .before .before .before .«open» .ensures) (c .before .opening2 .given .1))
 
 pub find-layout-dependency-chain-spec : {M : Type 1} → statement M
 find-layout-dependency-chain-spec =

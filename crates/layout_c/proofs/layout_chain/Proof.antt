@@ -6,6 +6,9 @@ use Rattle.layout_c.proofs.CallLaws.{chain-in-c}
 find-layout-dependency-chain-requires : tie.Need-find-layout-dependency-chain-requires
 find-layout-dependency-chain-requires c κs = search needs
 
+chain-answer-requires : tie.Need-chain-answer-requires
+chain-answer-requires c κs = search needs
+
 length-out-requires : tie.Need-length-out-requires
 length-out-requires c κs = search needs
 
@@ -16,8 +19,15 @@ same-length : tie.Need-same-length
 same-length c = search needs
 
 returns : tie.Need-returns
-returns c = chain-in-c _ _ _ (c .before .before .before .before .before .find-layout-dependency-chain .ensures) (c .before .length-out .ensures) (c .code .ensures)
+returns c = chain-in-c (c .before .before .before .before .before .before .find-layout-dependency-chain .ensures) (c .before .before .before .chain-answer .ensures) (c .before .length-out .ensures) (c .code .ensures)
 
 pub layout-chain-spec : {M : Type 1} → statement M
 layout-chain-spec =
-    tie.close (tie.spec find-layout-dependency-chain-requires length-out-requires code-requires same-length returns)
+    tie.close
+    (tie.spec
+    find-layout-dependency-chain-requires
+    chain-answer-requires
+    length-out-requires
+    code-requires
+    same-length
+    returns)

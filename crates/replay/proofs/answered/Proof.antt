@@ -24,11 +24,17 @@ renumbered-requires c κs = search needs
 returns-3 : tie.Need-returns-3
 returns-3 c = search needs
 
-named-requires : tie.Need-named-requires
-named-requires c κs = search needs
+followed-requires : tie.Need-followed-requires
+followed-requires c κs = search needs
 
 returns-4 : tie.Need-returns-4
 returns-4 c = search needs
+
+named-requires : tie.Need-named-requires
+named-requires c κs = search needs
+
+returns-5 : tie.Need-returns-5
+returns-5 c = search needs
 
 pub answered-spec : {M : Type 1} → statement M
 answered-spec =
@@ -40,5 +46,7 @@ answered-spec =
     returns-2
     renumbered-requires
     returns-3
+    followed-requires
+    returns-4
     named-requires
-    returns-4)
+    returns-5)

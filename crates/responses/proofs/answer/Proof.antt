@@ -23,11 +23,17 @@ respond-chain-requires c κs = search needs
 enum-known-order-2 : tie.Need-enum-known-order-2
 enum-known-order-2 c = search needs
 
-respond-size-requires : tie.Need-respond-size-requires
-respond-size-requires c κs = search needs
+respond-chain-requires-2 : tie.Need-respond-chain-requires-2
+respond-chain-requires-2 c κs = search needs
 
 enum-known-order-3 : tie.Need-enum-known-order-3
 enum-known-order-3 c = search needs
+
+respond-size-requires : tie.Need-respond-size-requires
+respond-size-requires c κs = search needs
+
+enum-known-order-4 : tie.Need-enum-known-order-4
+enum-known-order-4 c = search needs
 
 respond-value-requires : tie.Need-respond-value-requires
 respond-value-requires c κs = search needs
@@ -60,19 +66,25 @@ same-length-4 : tie.Need-same-length-4
 same-length-4 c = search needs
 
 returns-4 : tie.Need-returns-4
-returns-4 c = rw (c .before .before .before .before .before .order2 .given .1) (c .before .before .respond-size .ensures)
+returns-4 c = rw (c .before .before .before .before .before .order2 .given .1) (c .before .before .respond-chain2 .ensures)
 
 same-length-5 : tie.Need-same-length-5
 same-length-5 c = search needs
 
 returns-5 : tie.Need-returns-5
-returns-5 c = rw (c .before .before .before .before .before .order3 .given .1) (c .before .before .respond-value .ensures)
+returns-5 c = rw (c .before .before .before .before .before .order3 .given .1) (c .before .before .respond-size .ensures)
+
+same-length-6 : tie.Need-same-length-6
+same-length-6 c = search needs
 
 returns-6 : tie.Need-returns-6
-returns-6 c = search needs
+returns-6 c = rw (c .before .before .before .before .before .order4 .given .1) (c .before .before .respond-value .ensures)
 
 returns-7 : tie.Need-returns-7
 returns-7 c = search needs
+
+returns-8 : tie.Need-returns-8
+returns-8 c = search needs
 
 pub answer-spec : {M : Type 1} → statement M
 answer-spec =
@@ -85,8 +97,10 @@ answer-spec =
     enum-known-order
     respond-chain-requires
     enum-known-order-2
-    respond-size-requires
+    respond-chain-requires-2
     enum-known-order-3
+    respond-size-requires
+    enum-known-order-4
     respond-value-requires
     enum-told-3
     enum-told-4
@@ -100,5 +114,7 @@ answer-spec =
     returns-4
     same-length-5
     returns-5
+    same-length-6
     returns-6
-    returns-7)
+    returns-7
+    returns-8)

@@ -1,58 +1,68 @@
--- `search::explore` meets its contract. The invariant is the state of the search; the entries that are left fall.
+-- `search::explore` meets its contract. The invariant: the search is the one that was begun; the entries that are left fall.
 use Rattle.search.proofs.explore.Statement.{statement}
 use Rattle.search.proofs.explore.Tie as tie
-use Prim.Native.Nat.{_+_, _-_, _*_}
+use Prim.Native.Nat.{ℕ, _-_}
 use mathlib.Core.Path.{_≡_, refl, _∙_}
 use native.Mathlib.Omega.{arith}
-use lib.ListN.{length, length-set}
+use lib.ListN.{length}
 use Rattle.chain.specs.Index.{namesIn}
-use Rattle.search.specs.Work.{Exploring}
-use Rattle.search.proofs.Turns.{start, entries-few, explored}
+use Rattle.search.specs.Work.{nextIn, Measured, over}
+use Rattle.search.proofs.Turns.{sizes}
+use Rattle.search.proofs.Reading.{measured-open, measured-on}
 
 abbrev Inv-loop : tie.InvT-loop
-Inv-loop edges count to work₀ n₀ head₀ work n head = Exploring count edges to work n head 0 × (length work ≡ length work₀)
+Inv-loop edges count until work₀ work = ((to : ℕ) → Measured count edges to work₀ → Measured count edges to work) × (length work ≡ length work₀)
 
 abbrev μ-loop : tie.MeasureT-loop
-μ-loop edges count to work₀ n₀ head₀ work n head = namesIn edges - head
-
-mul-work : tie.Need-mul-work Inv-loop μ-loop
-mul-work c = omega (arith, c .before .before .pre .0 .0 .small, c .before .before .pre .0 .0 .few, c .before .before .pre .0 .1, c .before .before .pre .0 .2)
-
-add-work : tie.Need-add-work Inv-loop μ-loop
-add-work c = omega (arith, c .before .before .pre .0 .0 .small, c .before .before .pre .0 .0 .few, c .before .before .pre .0 .1, c .before .before .pre .0 .2)
-
-mul-work-2 : tie.Need-mul-work-2 Inv-loop μ-loop
-mul-work-2 c = omega (arith, c .before .before .pre .0 .0 .small, c .before .before .pre .0 .0 .few, c .before .before .pre .0 .1, c .before .before .pre .0 .2)
-
-slice-write-work : tie.Need-slice-write-work Inv-loop μ-loop
-slice-write-work c = omega (arith, c .before .before .pre .0 .0 .small, c .before .before .pre .0 .0 .few, c .before .before .pre .0 .1, c .before .before .pre .0 .2)
-
-cast-work : tie.Need-cast-work Inv-loop μ-loop
-cast-work c = omega (arith, c .before .before .pre .0 .0 .small, c .before .before .pre .0 .0 .few, c .before .before .pre .0 .1, c .before .before .pre .0 .2)
-
-slice-write-work-2 : tie.Need-slice-write-work-2 Inv-loop μ-loop
-slice-write-work-2 c = let a = c .before .before .args in omega (arith, c .before .before .pre .0 .0 .small, c .before .before .pre .0 .0 .few, c .before .before .pre .0 .1, c .before .before .pre .0 .2, length-set (a .work .now) (3 * a .to + 1) 1)
+μ-loop edges count until work₀ work = namesIn edges - nextIn count work
 
 loop-holds : tie.Need-loop-holds Inv-loop μ-loop
-loop-holds c = let p = c .before .before .pre in (start (p .0 .0) (c .before .before .args .work .now) (c .before .before .args .to) (p .0 .2) (p .0 .1) (p .1), refl)
+loop-holds c = (λ to q. q, refl)
+
+mul-if1 : tie.Need-mul-if1 Inv-loop μ-loop
+mul-if1 c = let p = c .before .before .before .pre in let i = c .loop .inv in omega (arith, p .0 .few, p .1, i .1)
+
+add-if1 : tie.Need-add-if1 Inv-loop μ-loop
+add-if1 c = let p = c .before .before .before .pre in let i = c .loop .inv in omega (arith, p .0 .few, p .1, i .1)
+
+mul-if1-2 : tie.Need-mul-if1-2 Inv-loop μ-loop
+mul-if1-2 c = let p = c .before .before .before .pre in let i = c .loop .inv in omega (arith, p .0 .few, p .1, i .1)
+
+slice-read-if1 : tie.Need-slice-read-if1 Inv-loop μ-loop
+slice-read-if1 c = let p = c .before .before .before .before .pre in let i = c .before .loop .inv in omega (arith, p .0 .few, p .1, i .1)
+
+mul-if1-3 : tie.Need-mul-if1-3 Inv-loop μ-loop
+mul-if1-3 c = let p = c .before .before .before .before .pre in let i = c .before .loop .inv in omega (arith, p .0 .few, p .1, i .1)
+
+add-if1-2 : tie.Need-add-if1-2 Inv-loop μ-loop
+add-if1-2 c = let p = c .before .before .before .before .pre in let i = c .before .loop .inv in omega (arith, p .0 .few, p .1, i .1)
+
+mul-if1-4 : tie.Need-mul-if1-4 Inv-loop μ-loop
+mul-if1-4 c = let p = c .before .before .before .before .pre in let i = c .before .loop .inv in omega (arith, p .0 .few, p .1, i .1)
+
+slice-read-if1-2 : tie.Need-slice-read-if1-2 Inv-loop μ-loop
+slice-read-if1-2 c = let p = c .before .before .before .before .before .pre in let i = c .before .before .loop .inv in omega (arith, p .0 .few, p .1, i .1)
 
 follow-requires : tie.Need-follow-requires Inv-loop μ-loop
-follow-requires c κs = (c .before .before .before .before .before .pre .0 .0, c .before .loop-test .taken, (c .before .before .before .before .before .args .to, c .before .before .loop .inv .0))
-
-add-head : tie.Need-add-head Inv-loop μ-loop
-add-head c = omega (arith, entries-few (c .before .before .before .before .before .before .before .before .pre .0 .0) (c .before .before .before .before .before .loop .inv .0), c .before .before .before .before .before .before .before .before .pre .0 .0 .small, c .before .before .before .before .before .before .before .before .pre .0 .0 .few, c .before .before .before .before .before .before .before .before .pre .0 .1, c .before .before .before .before .before .before .before .before .pre .0 .2)
-
-loop-less : tie.Need-loop-less Inv-loop μ-loop
-loop-less c = omega (arith, entries-few (c .before .before .before .before .before .before .before .before .pre .0 .0) (c .before .before .before .before .before .loop .inv .0), c .before .before .before .before .before .before .before .before .pre .0 .0 .small, c .before .before .before .before .before .before .before .before .pre .0 .0 .few, c .before .before .before .before .before .before .before .before .pre .0 .1, c .before .before .before .before .before .before .before .before .pre .0 .2)
-
-loop-again : tie.Need-loop-again Inv-loop μ-loop
-loop-again c = (c .before .before .follow .ensures (c .before .before .before .before .before .before .before .before .args .to) (c .before .before .before .before .before .loop .inv .0), c .before .before .follow .kept .1 .1 .1 .1 .0 ∙ c .before .before .before .before .before .loop .inv .1)
+follow-requires c κs = let p = c .before .before .before .before .before .before .before .pre in let i = c .before .before .before .before .loop .inv in let l = c .before .if1 .taken in let o = measured-open (p .0) (i .0 (p .2 .0) (p .2 .1)) l in (p .0, l, o)
 
 same-length : tie.Need-same-length Inv-loop μ-loop
-same-length c = let a = c .before .before .before .before .args in c .before .loop .inv .1 ∙ simp length-set refl
+same-length c = c .before .before .before .follow .kept .1 .1 .1 .0 ∙ c .before .before .before .before .before .before .before .before .loop .inv .1
 
 returns : tie.Need-returns Inv-loop μ-loop
-returns c = explored (c .before .before .before .before .pre .0 .0) (c .before .loop .inv .0) (omega arith)
+returns c = let p = c .before .before .before .before .before .before .before .before .before .before .before .pre in let i = c .before .before .before .before .before .before .before .before .loop .inv in let r = c .before .before .before .follow .ensures in (λ to q. measured-on (p .0) (c .before .before .before .before .before .if1 .taken) (r .paused) (i .0 to q), r .found (c .if2 .taken))
+
+loop-less : tie.Need-loop-less Inv-loop μ-loop
+loop-less c = let p = c .before .before .before .before .before .before .before .before .before .before .before .pre in let i = c .before .before .before .before .before .before .before .before .loop .inv in let l = c .before .before .before .before .before .if1 .taken in let o = measured-open (p .0) (i .0 (p .2 .0) (p .2 .1)) l in let r = c .before .before .before .follow .ensures in omega (arith, sizes (p .0) (o .1) l .entries, r .on (c .if2 .left))
+
+loop-again : tie.Need-loop-again Inv-loop μ-loop
+loop-again c = let p = c .before .before .before .before .before .before .before .before .before .before .before .pre in let i = c .before .before .before .before .before .before .before .before .loop .inv in let r = c .before .before .before .follow .ensures in (λ to q. measured-on (p .0) (c .before .before .before .before .before .if1 .taken) (r .paused) (i .0 to q), c .before .before .before .follow .kept .1 .1 .1 .0 ∙ i .1)
+
+same-length-2 : tie.Need-same-length-2 Inv-loop μ-loop
+same-length-2 c = c .before .before .before .loop .inv .1
+
+returns-2 : tie.Need-returns-2 Inv-loop μ-loop
+returns-2 c = (c .before .before .before .loop .inv .0, over (omega arith))
 
 pub explore-spec : {M : Type 1} → statement M
 explore-spec =
@@ -60,16 +70,19 @@ explore-spec =
     (tie.spec
     Inv-loop
     μ-loop
-    mul-work
-    add-work
-    mul-work-2
-    slice-write-work
-    cast-work
-    slice-write-work-2
     loop-holds
+    mul-if1
+    add-if1
+    mul-if1-2
+    slice-read-if1
+    mul-if1-3
+    add-if1-2
+    mul-if1-4
+    slice-read-if1-2
     follow-requires
-    add-head
+    same-length
+    returns
     loop-less
     loop-again
-    same-length
-    returns)
+    same-length-2
+    returns-2)

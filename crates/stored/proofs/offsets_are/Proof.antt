@@ -2,7 +2,6 @@
 use Rattle.stored.proofs.offsets_are.Statement.{statement}
 use Rattle.stored.proofs.offsets_are.Tie as tie
 use borrow.Author.Needs.{needs}
-use borrow.Author.Needs.{needs}
 use borrow.Author.Tests.{not-true, not-false}
 use native.Mathlib.Omega.{arith}
 use Prim.Native.Nat.{_-_}
@@ -10,7 +9,7 @@ use Rattle.stored.proofs.Standing.{told-true, told-false}
 use Rattle.stored.proofs.Numbers.{Placing, placing-start, placing-next, placing-not, placing-end, number-fits}
 
 abbrev Inv-loop : tie.InvT-loop
-Inv-loop list count due at₀ i₀ at i = Placing list due count at i
+Inv-loop list count due at₀ i₀ at i = Placing 4 16 list due count at i
 
 abbrev μ-loop : tie.MeasureT-loop
 μ-loop list count due at₀ i₀ at i = count - i
@@ -19,7 +18,7 @@ returns : tie.Need-returns Inv-loop μ-loop
 returns c = λ p. omega (arith, p .0)
 
 loop-holds : tie.Need-loop-holds Inv-loop μ-loop
-loop-holds c = placing-start _ _ _
+loop-holds c = placing-start 4 16 _ _ _
 
 mul-long : tie.Need-mul-long Inv-loop μ-loop
 mul-long c = search needs
@@ -37,7 +36,7 @@ returns-2 : tie.Need-returns-2 Inv-loop μ-loop
 returns-2 c = λ p. placing-not (c .before .before .before .before .before .loop .inv) (c .before .before .before .before .before .before .if1 .left) (c .before .before .long .result) (c .before .before .before .before .loop-test .taken) (c .before .before .long .ensures) (told-false (c .before .number-is .result) _ (not-true _ (c .if2 .taken)) (c .before .number-is .ensures)) (p .1)
 
 add-at : tie.Need-add-at Inv-loop μ-loop
-add-at c = omega (arith, number-fits ((c .before .before .before .before .before .before .before .before .before) .args .due .now) (c .before .before .before .before .before .loop .at) (c .before .before .long .result) (told-true (c .before .number-is .result) _ (not-false _ (c .if2 .left)) (c .before .number-is .ensures)))
+add-at c = omega (arith, number-fits 4 ((c .before .before .before .before .before .before .before .before .before) .args .due .now) (c .before .before .before .before .before .loop .at) (c .before .before .long .result) (omega arith) (told-true (c .before .number-is .result) _ (not-false _ (c .if2 .left)) (c .before .number-is .ensures)))
 
 add-i : tie.Need-add-i Inv-loop μ-loop
 add-i c = search needs

@@ -77,7 +77,7 @@ part-put-check-end : tie.Need-part-put-check-end Inv-loop μ-loop
 part-put-check-end c = omega (arith, c .before .before .before .before .before .check-reference .ensures .2 .room)
 
 put-check-requires : tie.Need-put-check-requires Inv-loop μ-loop
-put-check-requires c κs = let p = (wanted-part (6 * c .before .before .before .before .before .before .before .before .before .before .before .before .before .before .before .before .before .before .before .before .before .before .before .args .layout .edges + 1) (c .before .before .before .before .before .before .check-reference .last .1 .1 .1 .1 .1 .1 .1 .1 .0) (c .before .before .before .before .before .before .check-reference .ensures .0)) in
+put-check-requires c κs = let p = (wanted-part (6 * c .before .before .before .before .before .before .before .before .before .before .before .before .before .before .before .before .before .before .before .before .before .before .before .args .layout .edges + 3) (c .before .before .before .before .before .before .check-reference .last .1 .1 .1 .1 .1 .1 .1 .1 .0) (c .before .before .before .before .before .before .check-reference .ensures .0)) in
     ((c .before .before .before .before .before .before .before .before .before .before .before .before .before .before .before .before .before .before .before .before .before .before .before .pre .1 .0 .3 .number, meant-fits p), meant-room p _ (referencing-room (c .before .before .before .before .before .before .before .before .before .before .before .before .before .before .before .before .loop .inv .0) (reference-is _ _ _ (c .before .before .before .before .before .before .before .before .before .before .before .before .reference .given .1) (c .before .before .before .before .before .before .before .before .before .before .before .before .before .before .reference-at .ensures)) _ (p .holds .means _)))
 
 loop-less : tie.Need-loop-less Inv-loop μ-loop
@@ -90,7 +90,7 @@ loop-less-2 : tie.Need-loop-less-2 Inv-loop μ-loop
 loop-less-2 c = falls (c .before .before .before .before .before .before .before .before .before .before .before .before .before .before .before .before .before .before .loop-test .taken) ((reference-is _ _ _ (c .before .before .before .before .before .before .before .before .before .before .before .before .before .before .before .reference .given .1) (c .before .before .before .before .before .before .before .before .before .before .before .before .before .before .before .before .before .reference-at .ensures)) .forward)
 
 loop-again-2 : tie.Need-loop-again-2 Inv-loop μ-loop
-loop-again-2 c = let p = (wanted-part (6 * c .before .before .before .before .before .before .before .before .before .before .before .before .before .before .before .before .before .before .before .before .before .before .before .before .before .before .args .layout .edges + 1) (c .before .before .before .before .before .before .before .before .before .check-reference .last .1 .1 .1 .1 .1 .1 .1 .1 .0) (c .before .before .before .before .before .before .before .before .before .check-reference .ensures .0)) in
+loop-again-2 c = let p = (wanted-part (6 * c .before .before .before .before .before .before .before .before .before .before .before .before .before .before .before .before .before .before .before .before .before .before .before .before .before .before .args .layout .edges + 3) (c .before .before .before .before .before .before .before .before .before .check-reference .last .1 .1 .1 .1 .1 .1 .1 .1 .0) (c .before .before .before .before .before .before .before .before .before .check-reference .ensures .0)) in
     (referencing-next (c .before .before .before .before .before .before .before .before .before .before .before .before .before .before .before .before .before .before .before .loop .inv .0) (reference-is _ _ _ (c .before .before .before .before .before .before .before .before .before .before .before .before .before .before .before .reference .given .1) (c .before .before .before .before .before .before .before .before .before .before .before .before .before .before .before .before .before .reference-at .ensures)) _ (p .holds .means _) (c .before .before .before .before .before .before .before .before .before .check-reference .kept .1 .1 .1 .1 .1 .1 .1 .1 .0) (meant-wrote p _ (lt-ltb _ _) (c .before .before .put-check .ensures)), c .before .before .before .before .before .before .before .before .before .check-reference .ensures .1, c .before .before .before .before .before .before .before .before .before .check-reference .ensures .2, c .before .before .before .before .before .before .before .before .before .check-reference .ensures .3)
 
 same-length-3 : tie.Need-same-length-3 Inv-loop μ-loop

@@ -16,14 +16,14 @@ use Rattle.validate.proofs.Validators.{references-inside, size-reads, element-r
 
 -- the workspace, where its list came back as ys
 abbrev after : ℕ → List ℕ → List ℕ → List ℕ
-after count work ys = take (6 * count + 1) work ++ (ys ++ drop (length work - (6 * count + 1)) (drop (6 * count + 1) work))
+after count work ys = take (6 * count + 3) work ++ (ys ++ drop (length work - (6 * count + 3)) (drop (6 * count + 3) work))
 
 -- what was checked stands in the list as it is lent again
-again : {s : List ℕ} {n : ℕ} {r : Check} {o : ℕ → Option Violation} (count : ℕ) (work : List ℕ) → 7 * count + 5 ≤ length work → (ys : List ℕ)
-    → length ys ≡ length (take (length work - (6 * count + 1)) (drop (6 * count + 1) work)) → Checked s n ys r o
-    → Checked s n (take (length (after count work ys) - (6 * count + 1)) (drop (6 * count + 1) (after count work ys))) r o
+again : {s : List ℕ} {n : ℕ} {r : Check} {o : ℕ → Option Violation} (count : ℕ) (work : List ℕ) → 7 * count + 7 ≤ length work → (ys : List ℕ)
+    → length ys ≡ length (take (length work - (6 * count + 3)) (drop (6 * count + 3) work)) → Checked s n ys r o
+    → Checked s n (take (length (after count work ys) - (6 * count + 3)) (drop (6 * count + 3) (after count work ys))) r o
 again {s} {n} {r} {o} count work room ys e c =
-    subst (λ (xs : List ℕ). Checked s n xs r o) (sym (whole-part (6 * count + 1) (after count work ys) ∙ list-back count work room ys e .0)) c
+    subst (λ (xs : List ℕ). Checked s n xs r o) (sym (whole-part (6 * count + 3) (after count work ys) ∙ list-back count work room ys e .0)) c
 
 mul-list : tie.Need-mul-list
 mul-list c = omega (arith, c .before .before .before .before .before .before .pre .1 .0 .0 .few)

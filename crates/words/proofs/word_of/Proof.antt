@@ -47,7 +47,7 @@ same-requires-5 : tie.Need-same-requires-5
 same-requires-5 c κs = search needs
 
 returns-5 : tie.Need-returns-5
-returns-5 c = inl (c .before .same5 .ensures .0 (c .if5 .taken))
+returns-5 c = c .before .same5 .ensures .0 (c .if5 .taken)
 
 slice-aggregate-same-6 : tie.Need-slice-aggregate-same-6
 slice-aggregate-same-6 c = search needs
@@ -56,7 +56,7 @@ same-requires-6 : tie.Need-same-requires-6
 same-requires-6 c κs = search needs
 
 returns-6 : tie.Need-returns-6
-returns-6 c = inr (inl (c .before .same6 .ensures .0 (c .if6 .taken)))
+returns-6 c = inl (c .before .same6 .ensures .0 (c .if6 .taken))
 
 slice-aggregate-same-7 : tie.Need-slice-aggregate-same-7
 slice-aggregate-same-7 c = search needs
@@ -65,16 +65,26 @@ same-requires-7 : tie.Need-same-requires-7
 same-requires-7 c κs = search needs
 
 returns-7 : tie.Need-returns-7
-returns-7 c = inr (inr (c .before .same7 .ensures .0 (c .if7 .taken)))
+returns-7 c = inr (inl (c .before .same7 .ensures .0 (c .if7 .taken)))
+
+slice-aggregate-same-8 : tie.Need-slice-aggregate-same-8
+slice-aggregate-same-8 c = search needs
+
+same-requires-8 : tie.Need-same-requires-8
+same-requires-8 c κs = search needs
 
 returns-8 : tie.Need-returns-8
-returns-8 c = (
-  unlike (c .before .before .before .before .before .before .before .before .before .before .before .before .before .before .before .before .before .before .if1 .left) (c .before .before .before .before .before .before .before .before .before .before .before .before .before .before .before .before .before .before .before .same .ensures .1),
-  unlike (c .before .before .before .before .before .before .before .before .before .before .before .before .before .before .before .if2 .left) (c .before .before .before .before .before .before .before .before .before .before .before .before .before .before .before .before .same2 .ensures .1),
-  unlike (c .before .before .before .before .before .before .before .before .before .before .before .before .if3 .left) (c .before .before .before .before .before .before .before .before .before .before .before .before .before .same3 .ensures .1),
-  unlike (c .before .before .before .before .before .before .before .before .before .if4 .left) (c .before .before .before .before .before .before .before .before .before .before .same4 .ensures .1),
-  ⊎-elim (unlike (c .before .before .before .before .before .before .if5 .left) (c .before .before .before .before .before .before .before .same5 .ensures .1))
-      (⊎-elim (unlike (c .before .before .before .if6 .left) (c .before .before .before .before .same6 .ensures .1)) (unlike (c .if7 .left) (c .before .same7 .ensures .1))),
+returns-8 c = inr (inr (c .before .same8 .ensures .0 (c .if8 .taken)))
+
+returns-9 : tie.Need-returns-9
+returns-9 c = (
+  unlike (c .before .before .before .before .before .before .before .before .before .before .before .before .before .before .before .before .before .before .before .before .before .if1 .left) (c .before .before .before .before .before .before .before .before .before .before .before .before .before .before .before .before .before .before .before .before .before .before .same .ensures .1),
+  unlike (c .before .before .before .before .before .before .before .before .before .before .before .before .before .before .before .before .before .before .if2 .left) (c .before .before .before .before .before .before .before .before .before .before .before .before .before .before .before .before .before .before .before .same2 .ensures .1),
+  unlike (c .before .before .before .before .before .before .before .before .before .before .before .before .before .before .before .if3 .left) (c .before .before .before .before .before .before .before .before .before .before .before .before .before .before .before .before .same3 .ensures .1),
+  unlike (c .before .before .before .before .before .before .before .before .before .before .before .before .if4 .left) (c .before .before .before .before .before .before .before .before .before .before .before .before .before .same4 .ensures .1),
+  unlike (c .before .before .before .before .before .before .before .before .before .if5 .left) (c .before .before .before .before .before .before .before .before .before .before .same5 .ensures .1),
+  ⊎-elim (unlike (c .before .before .before .before .before .before .if6 .left) (c .before .before .before .before .before .before .before .same6 .ensures .1))
+      (⊎-elim (unlike (c .before .before .before .if7 .left) (c .before .before .before .before .same7 .ensures .1)) (unlike (c .if8 .left) (c .before .same8 .ensures .1))),
 )
 
 pub word-of-spec : {M : Type 1} → statement M
@@ -102,4 +112,7 @@ word-of-spec =
     slice-aggregate-same-7
     same-requires-7
     returns-7
-    returns-8)
+    slice-aggregate-same-8
+    same-requires-8
+    returns-8
+    returns-9)

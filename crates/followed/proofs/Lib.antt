@@ -1,0 +1,9 @@
+pub mod Order
+pub mod DistinctLists
+pub mod UpTo
+pub mod FirstWalks
+pub mod FollowedLaws
+pub mod FollowedExchanges
+pub mod Computed
+pub mod Counting
+pub mod Gathered
