@@ -34,7 +34,7 @@
  * thread and takes less than LAYOUT_STACK_BYTES of it: that is measured and tested
  * with bundles made to go deep, and not proved.
  *
- * The library is for Linux on x86-64, and of the C library it needs memset and memcpy.
+ * The library is for Linux on x86-64, and of the C library it needs memset.
  */
 #ifndef LAYOUT_H
 #define LAYOUT_H
