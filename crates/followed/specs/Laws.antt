@@ -63,7 +63,7 @@ pub record Counts : Type 0 where
   -- at most all of them are followed, and these are at most one more than the edges
   pub at-most : (g : Graph) (a b : ℕ) → followedCount g a b ≤ length (reachable g a)
   pub few : (g : Graph) (a : ℕ) → length (reachable g a) ≤ suc (g .count)
-  -- 0 exactly from a name to itself; the start is followed otherwise, and the end never where there is a chain
+  -- 0 exactly from a name to itself; the start is followed otherwise, and the end never
   pub self : (g : Graph) (a b : ℕ) → (followedCount g a b ≡ 0) ↔ (a ≡ b)
   pub start : (g : Graph) (a b : ℕ) → (a ≡ b → ⊥) → IsFollowed g a b a
   pub not-the-end : (g : Graph) (a b : ℕ) → IsFollowed g a b b → ⊥

@@ -18,7 +18,7 @@ use lib.ListN.{length, length-set, getD, set}
 use lib.Seq.{getD-set-same, getD-set-other}
 use Rattle.chain.specs.Index.{namesIn, fromIn, toIn, linkIn, firstIn, numbered, NextTo, Indexed}
 use Rattle.search.specs.Seeking.{Pushed}
-use Rattle.search.specs.Work.{farIn, queueIn, hopIn, entriesIn, nextIn, Exploring, Paused, Settled, marked, Followed, Hopped, Added, known, new, Below}
+use Rattle.search.specs.Work.{farIn, queueIn, hopIn, entriesIn, nextIn, Exploring, Paused, Settled, marked, AfterEntry, Hopped, Added, known, new, Below}
 use Rattle.search.proofs.Breadth.{seeking-start, seeking-room, seeking-push, seeking-known, seeking-skip, seeking-next, seeking-back, seeking-few, seeking-same}
 use Rattle.search.proofs.Distances.{hops-start, hops-passed, hops-taken}
 
@@ -243,7 +243,7 @@ module _ {count : ℕ} {edges : List ℕ} (s : Indexed count edges) where
     room = f (p .0) (p .1) .exploring .room
 
     pub follow-early : {until : ℕ} {work′ : List ℕ} {r : ℕ} → e < count → Added work n (fromIn edges e) v work′ r → fromIn edges e ≡ until
-        → Followed count edges until work₀ (set work′ (6 * count + 1) r) true
+        → AfterEntry count edges until work₀ (set work′ (6 * count + 1) r) true
     follow-early {work′ = work′} {r = r} l a is =
         record {
           paused = λ b q.
@@ -263,7 +263,7 @@ module _ {count : ℕ} {edges : List ℕ} (s : Indexed count edges) where
         reached (known q is _) = rw is q
         reached (new fresh is _) = rw is (let q = f (p .0) (p .1) in omega (arith, push q l fresh .here, q .off))
 
-    pub follow-all : {until : ℕ} → nextIn count work₀ ≡ h → count ≤ e → Followed count edges until work₀ (set (set work (6 * count + 1) n) (6 * count + 2) (h + 1)) false
+    pub follow-all : {until : ℕ} → nextIn count work₀ ≡ h → count ≤ e → AfterEntry count edges until work₀ (set (set work (6 * count + 1) n) (6 * count + 2) (h + 1)) false
     follow-all start l =
         record {
           paused = λ b q.

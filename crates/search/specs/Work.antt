@@ -58,7 +58,7 @@ pub data Settled (count : ℕ) (edges : List ℕ) (x : ℕ) (work : List ℕ) : 
   over : entriesIn count work ≤ nextIn count work → Settled count edges x work
 
 -- the edges to the entry that was next were followed: up to one from the number x, or all
-pub record Followed (count : ℕ) (edges : List ℕ) (x : ℕ) (work work′ : List ℕ) (early : Bool) : Type 0 where
+pub record AfterEntry (count : ℕ) (edges : List ℕ) (x : ℕ) (work work′ : List ℕ) (early : Bool) : Type 0 where
   pub paused : (b : ℕ) → Paused count edges b work → Paused count edges b work′
   pub found : early ≡ true → Settled count edges x work′
   pub on : early ≡ false → nextIn count work′ ≡ nextIn count work + 1

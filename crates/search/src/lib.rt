@@ -13,7 +13,7 @@ ghost use mathlib.Core.Path.{_≡_};
 ghost use Prim.Native.Nat.{ℕ, _+_, _*_, _≤_, _<_};
 ghost use lib.ListN.{length, getD};
 ghost use Rattle.chain.specs.Index.{namesIn, Indexed};
-ghost use Rattle.search.specs.Work.{farIn, entriesIn, nextIn, Paused, Followed, Settled, Added, Measured, Lent};
+ghost use Rattle.search.specs.Work.{farIn, entriesIn, nextIn, Paused, AfterEntry, Settled, Added, Measured, Lent};
 
 // How many places are lent: for a search over few edges, and over as many as a bundle can have.
 pub const FEW_PLACES: usize = 7 * chain::FEW_EDGES + 7;
@@ -50,7 +50,7 @@ fn add_new(work: &mut [u16], n: usize, x: u16, far: u16) -> usize
 // Returns whether there is one.
 fn follow(edges: &[u16], count: usize, until: u16, work: &mut [u16]) -> bool
     requires { ⌜ Indexed count (now edges) × (nextIn count (now work) < entriesIn count (now work)) × ((b : ℕ) × Paused count (now edges) b (now work)) ⌝ }
-    ensures { λ r. ⌜ Followed count (now (edges .entry)) until (now (work .entry)) (now (work .exit)) r ⌝ }
+    ensures { λ r. ⌜ AfterEntry count (now (edges .entry)) until (now (work .entry)) (now (work .exit)) r ⌝ }
 {
     let entries = 6 * count + 1;
     let next = 6 * count + 2;
