@@ -44,6 +44,6 @@ pub fn report(bundle: &[u8], out: &mut [u8]) -> Answer
             notes::note(bundle, &mut places, layout);
             report_opened::report_few(bundle, &places, layout, out)
         }
-        Opening::Refused(k) => Answer::Refused(k),
+        Opening::Refused(number) => Answer::Refused(number),
     }
 }
