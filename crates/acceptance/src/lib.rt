@@ -1,10 +1,10 @@
 // Opens a bundle: reads all of it, notes the positions of its definitions, looks for circles, and says whether it is accepted.
 use bundle::Answer;
-use bundle::Counts;
 use bundle::Form;
 use bundle::Layout;
 use bundle::Opening;
 use bundle::Step;
+use records::Counts;
 ghost use mathlib.Core.Path.{_≡_};
 ghost use Prim.Native.Nat.{_+_, _≤_, _<_};
 ghost use lib.ListN.{length};
@@ -14,8 +14,9 @@ ghost use Rattle.meaning.specs.ReadBundle.{readEdge, readHeader, readEdges};
 ghost use Rattle.meaning.specs.Reader.{many};
 ghost use Rattle.meaning.specs.Circle.{circles};
 ghost use Rattle.meaning.specs.Calls.{acceptance, answerOf};
-ghost use Rattle.bundle.specs.View.{formMeant, stepOf, countsOf};
-ghost use Rattle.bundle.specs.declared.Counts.the-variants.{Each};
+ghost use Rattle.bundle.specs.View.{formMeant, stepOf};
+ghost use Rattle.records.specs.Header.{countsOf};
+ghost use Rattle.records.specs.declared.Counts.the-variants.{Each};
 ghost use Rattle.bundle.specs.Definitions.{bundleOf, placesEnd, DefinitionsAt, Places, Table};
 ghost use Rattle.acceptance.specs.Circles.{Marks, Decided};
 ghost use Rattle.bundle.specs.Opened.{IsRead, IsOpened, answerMeant};
@@ -25,7 +26,7 @@ fn edge_at(s: &[u8], at: usize, form: Form) -> Step
     requires { ⌜ formMeant form ≡ formOf 0x62 ⌝ }
     ensures { λ r. ⌜ r ≡ stepOf (readEdge (now (s .entry)) at) ⌝ }
 {
-    let opened = bundle::opening_at(s, at, 0x62, form);
+    let opened = records::opening_at(s, at, 0x62, form);
     match opened {
         Step::Next(body) => {
             if 3 < s[body + 4] {
@@ -46,7 +47,7 @@ fn definitions_at(s: &[u8], at: usize, count: usize, places: &mut [u16]) -> Step
     let mut next = at;
     let mut i = 0;
     while i < count {
-        let step = bundle::definition_at(s, next);
+        let step = records::definition_at(s, next);
         match step {
             Step::Next(after) => {
                 places[i] = (next + 3) as u16;
@@ -153,7 +154,7 @@ fn bundle_at(s: &[u8], places: &mut [u16]) -> Opening
     if bundle::BYTE_LIMIT < s.len() {
         return Opening::Refused(1);
     }
-    let header = bundle::header_at(s);
+    let header = records::header_at(s);
     match header {
         Counts::Each(definitions, edges, next) => rest_at(s, next, definitions, edges, places),
         Counts::Bad(k) => Opening::Refused(k),

@@ -1,17 +1,14 @@
 pub mod AnswerLaws
 pub mod Bounds
-pub mod DefinitionLaws
 pub mod ExprLaws
 pub mod Forms
 pub mod HeadLaws
 pub mod Heads
-pub mod LayoutLaws
 pub mod LookupLaws
 pub mod NameLaws
 pub mod OperandLaws
 pub mod PartTrees
 pub mod Parts
-pub mod RecordLaws
 pub mod Steps
 pub mod Trees
 pub mod TypeLaws

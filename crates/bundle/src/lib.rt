@@ -1,13 +1,12 @@
-// Reads a bundle of layout definitions: accepts exactly the byte strings that the format allows.
+// Reads types and expressions by position: accepts exactly the bytes that the format allows.
 ghost use mathlib.Core.Path.{_≡_};
-ghost use Prim.Native.Nat.{_+_, _*_, _≤_};
+ghost use Prim.Native.Nat.{_+_, _≤_};
 ghost use lib.ListN.{length};
 ghost use Rattle.meaning.specs.Kinds.{formOf};
 ghost use Rattle.meaning.specs.ReadExpr.{body, readExpr};
 ghost use Rattle.meaning.specs.ReadType.{head, arrayHead, memberHead, readTy, readMember, readMembers, readGroup, readEnum, readArray};
-ghost use Rattle.meaning.specs.ReadBundle.{opening, readDefinition, readHeader};
 ghost use Rattle.meaning.specs.Reader.{little};
-ghost use Rattle.bundle.specs.View.{recordBefore, recordNames, recordBehind, formMeant, operandsOf, stepOf, countOf, countsOf};
+ghost use Rattle.bundle.specs.View.{formMeant, operandsOf, stepOf, countOf};
 
 // What an expression's kind byte fixes: its body and what follows. A literal has its body length, a field reference its
 // count of names.
@@ -66,12 +65,6 @@ pub enum Step {
 pub enum Count {
     Of(usize, usize),
     Wrong(u8),
-}
-
-// The numbers of definitions and edges and the end of the header, or the number of the fault in the header.
-pub enum Counts {
-    Each(usize, usize, usize),
-    Bad(u8),
 }
 
 // The counts of a bundle, the position of its first edge and its current name.
@@ -421,70 +414,4 @@ fn members_at(s: &[u8], at: usize, depth: usize, kind: u8, count: usize) -> Step
         }
     }
     Step::Next(next)
-}
-
-// The bytes of the body of a header, definition or edge.
-fn record_length(form: RecordForm) -> usize
-    ensures { λ r. ⌜ r ≡ recordBefore form + 2 * recordNames form + recordBehind form ⌝ }
-{
-    match form {
-        RecordForm::Header => 6,
-        RecordForm::Definition => 2,
-        RecordForm::Edge => 5,
-    }
-}
-
-// The body of the header, definition or edge at `at`, whose kind must be `kind`, of this form, and whose body must be whole.
-pub fn opening_at(s: &[u8], at: usize, kind: u8, form: Form) -> Step
-    requires { ⌜ formMeant form ≡ formOf kind ⌝ }
-    ensures { λ r. ⌜ r ≡ stepOf (opening kind (now (s .entry)) at) ⌝ }
-{
-    if s.len() <= at {
-        return Step::Refused(2);
-    }
-    if s[at] != kind {
-        return Step::Refused(3);
-    }
-    let Form::OfRecord(record) = form else {
-        return Step::Refused(3);
-    };
-    let body = at + 1;
-    if s.len() - body < record_length(record) {
-        return Step::Refused(2);
-    }
-    Step::Next(body)
-}
-
-// The end of the definition at `at`.
-pub fn definition_at(s: &[u8], at: usize) -> Step
-    ensures { λ r. ⌜ r ≡ stepOf (readDefinition (now (s .entry)) at) ⌝ }
-{
-    let form = form_of(0x61);
-    let opened = opening_at(s, at, 0x61, form);
-    match opened {
-        Step::Next(body) => type_at(s, body + 2, DEPTH_LIMIT),
-        Step::Refused(k) => Step::Refused(k),
-    }
-}
-
-// The counts in the header.
-pub fn header_at(s: &[u8]) -> Counts
-    ensures { λ r. ⌜ r ≡ countsOf (readHeader (now (s .entry)) 0) ⌝ }
-{
-    let form = form_of(0x60);
-    let opened = opening_at(s, 0, 0x60, form);
-    match opened {
-        Step::Next(body) => {
-            let definitions = u16_at(s, body);
-            let edges = u16_at(s, body + 2);
-            if DEFINITION_LIMIT < definitions {
-                return Counts::Bad(5);
-            }
-            if EDGE_LIMIT < edges {
-                return Counts::Bad(5);
-            }
-            Counts::Each(definitions as usize, edges as usize, body + 6)
-        }
-        Step::Refused(k) => Counts::Bad(k),
-    }
 }

@@ -5,7 +5,6 @@ use libc::STDOUT_FILENO;
 use offsets::Fixed;
 use search_from::Listing;
 use values::Valued;
-ghost use Prim.Native.Nat.{_<_};
 
 // Reads n bytes into the first places; whether all were there.
 fn read_first(space: &mut [u8], n: usize) -> bool {
@@ -13,22 +12,6 @@ fn read_first(space: &mut [u8], n: usize) -> bool {
         return false;
     }
     io::read_full(STDIN_FILENO, &mut space[..n]) == n
-}
-
-fn wide(byte: u8) -> usize
-    ensures { λ r. ⌜ r < 256 ⌝ }
-{
-    byte as usize
-}
-
-// The name in two bytes.
-fn name(low: u8, high: u8) -> u16 {
-    low as u16 + 256 * high as u16
-}
-
-// The number in two bytes.
-fn pair(low: u8, high: u8) -> usize {
-    wide(low) + 256 * wide(high)
 }
 
 // Whether the report of the bundle is the answer in the first m bytes of `due`.
@@ -76,8 +59,8 @@ fn followed(asked: &[u8], due: &[u8], m: usize) -> bool {
     if asked.len() < 4 {
         return false;
     }
-    let from = name(asked[0], asked[1]);
-    let to = name(asked[2], asked[3]);
+    let from = bundle::u16_at(asked, 0);
+    let to = bundle::u16_at(asked, 2);
     let mut list = [0u16; bundle::CHAIN_LIMIT];
     let answer = find_chain::find_layout_dependency_chain(&asked[4..], from, to, &mut list);
     match answer {
@@ -91,7 +74,7 @@ fn named(kind: u8, asked: &[u8], due: &[u8], m: usize) -> bool {
     if asked.len() < 2 {
         return false;
     }
-    let definition = pair(asked[0], asked[1]);
+    let definition = bundle::u16_at(asked, 0) as usize;
     if kind == 2 {
         return measured(&asked[2..], definition, due, m);
     }
@@ -132,7 +115,9 @@ fn read_head() -> Head {
     if io::read_full(STDIN_FILENO, &mut head) < 5 {
         return Head::End;
     }
-    Head::Case(head[0], pair(head[1], head[2]), pair(head[3], head[4]))
+    let asked = bundle::u16_at(&head, 1) as usize;
+    let due = bundle::u16_at(&head, 3) as usize;
+    Head::Case(head[0], asked, due)
 }
 
 // Reads what is asked and the answer, and compares.

@@ -2,8 +2,8 @@ use borrow.Author.Needs.{needs}
 use Rattle.acceptance.proofs.bundle_at.Statement.{statement}
 use Rattle.acceptance.proofs.bundle_at.Tie as tie
 use mathlib.Core.Path.{sym, _∙_}
-use Rattle.bundle.proofs.LayoutLaws.{refused-is}
-use Rattle.bundle.proofs.RecordLaws.{bundle-overlong, bundle-bad}
+use Rattle.records.proofs.LayoutLaws.{refused-is}
+use Rattle.records.proofs.RecordLaws.{bundle-overlong, bundle-bad}
 
 returns : tie.Need-returns
 returns c = refused-is _ _ (bundle-overlong _ (c .if1 .taken))

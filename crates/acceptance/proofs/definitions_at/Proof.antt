@@ -6,7 +6,7 @@ use native.Mathlib.Omega.{arith}
 use Prim.Native.Nat.{_-_}
 use mathlib.Core.Path.{_≡_, refl, sym, _∙_}
 use lib.ListN.{length, length-set}
-use Rattle.bundle.proofs.DefinitionLaws.{Placing, placing-start, placing-there, placing-next, placing-refused, placing-end}
+use Rattle.records.proofs.DefinitionLaws.{Placing, placing-start, placing-there, placing-next, placing-refused, placing-end}
 
 abbrev Inv-loop : tie.InvT-loop
 Inv-loop s at count places₀ next₀ i₀ places next i = (length places ≡ length places₀) × Placing s at count places i next

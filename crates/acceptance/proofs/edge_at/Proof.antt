@@ -5,7 +5,7 @@ use Rattle.acceptance.proofs.edge_at.Tie as tie
 use native.Mathlib.Omega.{arith}
 use mathlib.Core.Path.{refl, sym, _∙_}
 use Rattle.meaning.specs.Kinds.{lookup}
-use Rattle.bundle.proofs.RecordLaws.{opening-there, edge-kind, edge-ends, edge-refused}
+use Rattle.records.proofs.RecordLaws.{opening-there, edge-kind, edge-ends, edge-refused}
 
 opening-at-requires : tie.Need-opening-at-requires
 opening-at-requires c κs = search needs

@@ -2,7 +2,7 @@ use borrow.Author.Needs.{needs}
 use Rattle.acceptance.proofs.edges_end.Statement.{statement}
 use Rattle.acceptance.proofs.edges_end.Tie as tie
 use mathlib.Core.Path.{sym, _∙_}
-use Rattle.bundle.proofs.RecordLaws.{edges-trailing, edges-accepted, edges-refused}
+use Rattle.records.proofs.RecordLaws.{edges-trailing, edges-accepted, edges-refused}
 
 edges-at-requires : tie.Need-edges-at-requires
 edges-at-requires c κs = search needs

@@ -3,7 +3,7 @@ use Rattle.acceptance.proofs.rest_at.Statement.{statement}
 use Rattle.acceptance.proofs.rest_at.Tie as tie
 use native.Mathlib.Omega.{arith}
 use mathlib.Core.Path.{refl, sym, _∙_}
-use Rattle.bundle.proofs.LayoutLaws.{header-read, definitions-refused, rest-not, definitions-placed, layout-of}
+use Rattle.records.proofs.LayoutLaws.{header-read, definitions-refused, rest-not, definitions-placed, layout-of}
 
 definitions-at-requires : tie.Need-definitions-at-requires
 definitions-at-requires c κs = (c .before .before .before .pre .0, header-read _ _ _ _ (c .before .before .before .pre .2) .definitions, omega (arith, c .before .before .before .pre .1), omega (arith, header-read _ _ _ _ (c .before .before .before .pre .2) .next, header-read _ _ _ _ (c .before .before .before .pre .2) .there))

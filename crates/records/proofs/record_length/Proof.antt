@@ -1,7 +1,7 @@
--- `bundle::record_length` meets its contract.
+-- `records::record_length` meets its contract.
 use borrow.Author.Needs.{needs}
-use Rattle.bundle.proofs.record_length.Statement.{statement}
-use Rattle.bundle.proofs.record_length.Tie as tie
+use Rattle.records.proofs.record_length.Statement.{statement}
+use Rattle.records.proofs.record_length.Tie as tie
 
 enum-told : tie.Need-enum-told
 enum-told c = search needs

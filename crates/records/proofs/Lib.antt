@@ -1,0 +1,3 @@
+pub mod DefinitionLaws
+pub mod LayoutLaws
+pub mod RecordLaws
