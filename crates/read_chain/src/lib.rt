@@ -70,6 +70,28 @@ fn chain_from(edges: &[u16], count: usize, x: usize, wanted: bool, work: &mut [u
     Found::Chain(n)
 }
 
+// Makes the search to the name `to` as far as the chain from the number `x` asks for: until `x` is marked where only the name itself is, and
+// to its end where others are marked and `x` is not. So the edges to one entry at most are followed twice, and hops set twice at most.
+fn ready(edges: &[u16], count: usize, x: usize, to: u16, work: &mut [u16])
+    requires { ⌜ Indexed count (now edges) × Lent count (now edges) to (now work) × (x < namesIn (now edges)) ⌝ }
+    ensures { λ _. ⌜ Lent count (now (edges .entry)) to (now (work .exit)) × (getD (now (work .exit)) 0 0 ≡ 0 → ⊥) × Settled count (now (edges .entry)) x (now (work .exit)) ⌝ }
+{
+    search::begin(edges, count, to, work);
+    if work[3 * x + 1] != 0 {
+        return;
+    }
+    if work[6 * count + 1] <= work[6 * count + 2] {
+        return;
+    }
+    let until = if work[6 * count + 1] == 1 {
+        x as u16
+    } else {
+        edges[0]
+    };
+    search::explore(edges, count, until, work);
+    work[0] = 1;
+}
+
 // The chain from `from` to `to` over `count` prepared edges, into the list if it is wanted there. All calls with the same slice `work` are
 // to one name, and each goes on with the search of those before it; place 0 of the slice is 0 before the first, and what else it holds is free.
 pub fn find(
@@ -92,6 +114,6 @@ pub fn find(
     if m <= x {
         return Found::Missing;
     }
-    search::ready(edges, count, x, to, work);
+    ready(edges, count, x, to, work);
     chain_from(edges, count, x, wanted, work)
 }

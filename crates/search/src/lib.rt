@@ -12,7 +12,7 @@
 ghost use mathlib.Core.Path.{_≡_};
 ghost use Prim.Native.Nat.{ℕ, _+_, _*_, _≤_, _<_};
 ghost use lib.ListN.{length, getD};
-ghost use Rattle.chain.specs.Index.{namesIn, Indexed};
+ghost use Rattle.chain.specs.Index.{Indexed};
 ghost use Rattle.search.specs.Work.{farIn, entriesIn, nextIn, Paused, AfterEntry, Settled, Added, Measured, Lent};
 
 // How many places are lent: for a search over few edges, and over as many as a bundle can have.
@@ -74,7 +74,7 @@ fn follow(edges: &[u16], count: usize, until: u16, work: &mut [u16]) -> bool
 }
 
 // Goes on with the search until the number `until` is marked or no entry is left.
-fn explore(edges: &[u16], count: usize, until: u16, work: &mut [u16])
+pub fn explore(edges: &[u16], count: usize, until: u16, work: &mut [u16])
     requires { ⌜ Indexed count (now edges) × (7 * count + 7 ≤ length (now work)) × ((to : ℕ) × Measured count (now edges) to (now work)) ⌝ }
     ensures { λ _. ⌜ ((to : ℕ) → Measured count (now (edges .entry)) to (now (work .entry)) → Measured count (now (edges .entry)) to (now (work .exit))) × Settled count (now (edges .entry)) until (now (work .exit)) ⌝ }
 {
@@ -86,7 +86,7 @@ fn explore(edges: &[u16], count: usize, until: u16, work: &mut [u16])
 }
 
 // Begins the search to the name `to`, unless it was begun: only the number of the name is marked.
-fn begin(edges: &[u16], count: usize, to: u16, work: &mut [u16])
+pub fn begin(edges: &[u16], count: usize, to: u16, work: &mut [u16])
     requires { ⌜ Indexed count (now edges) × Lent count (now edges) to (now work) ⌝ }
     ensures { λ _. ⌜ Lent count (now (edges .entry)) to (now (work .exit)) × (getD (now (work .exit)) 0 0 ≡ 0 → ⊥) ⌝ }
 {
@@ -106,26 +106,4 @@ fn begin(edges: &[u16], count: usize, to: u16, work: &mut [u16])
     work[3 * b + 1] = 1;
     work[2] = b as u16;
     work[entries] = 1;
-}
-
-// Makes the search to the name `to` as far as the chain from the number `x` asks for: until `x` is marked where only the name itself is, and
-// to its end where others are marked and `x` is not. So the edges to one entry at most are followed twice, and hops set twice at most.
-pub fn ready(edges: &[u16], count: usize, x: usize, to: u16, work: &mut [u16])
-    requires { ⌜ Indexed count (now edges) × Lent count (now edges) to (now work) × (x < namesIn (now edges)) ⌝ }
-    ensures { λ _. ⌜ Lent count (now (edges .entry)) to (now (work .exit)) × (getD (now (work .exit)) 0 0 ≡ 0 → ⊥) × Settled count (now (edges .entry)) x (now (work .exit)) ⌝ }
-{
-    begin(edges, count, to, work);
-    if work[3 * x + 1] != 0 {
-        return;
-    }
-    if work[6 * count + 1] <= work[6 * count + 2] {
-        return;
-    }
-    let until = if work[6 * count + 1] == 1 {
-        x as u16
-    } else {
-        edges[0]
-    };
-    explore(edges, count, until, work);
-    work[0] = 1;
 }

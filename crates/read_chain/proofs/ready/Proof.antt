@@ -1,15 +1,15 @@
 use borrow.Author.Needs.{needs}
-use Rattle.search.proofs.ready.Statement.{statement}
-use Rattle.search.proofs.ready.Tie as tie
+use Rattle.read_chain.proofs.ready.Statement.{statement}
+use Rattle.read_chain.proofs.ready.Tie as tie
 use Prim.Native.Nat.{_+_, _*_, _≤_}
 use mathlib.Core.Path.{refl, _∙_}
 use mathlib.Core.Logic.{inl, inr, ⊎-elim}
 use native.Mathlib.Omega.{arith}
 use lib.ListN.{length, length-set}
 use lib.Seq.{getD-set-same}
 use Rattle.search.specs.Work.{marked, over}
 use Rattle.search.proofs.Turns.{kept-set}
 use Rattle.search.proofs.Reading.{measured-kept, settled-for, settled-kept, lent-begun}
 
 begin-requires : tie.Need-begin-requires
 begin-requires c κs = search needs
