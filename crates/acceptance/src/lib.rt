@@ -1,4 +1,6 @@
 // Opens a bundle: reads all of it, notes the positions of its definitions, looks for circles, and says whether it is accepted.
+#![tactic(auto)]
+
 ghost use Rattle.std.specs.Prelude.{◌≡◌, ◌+◌, ◌≤◌, ◌<◌, length, ◌∷◌, []};
 ghost use Rattle.meaning.specs.Kinds.{form_of};
 ghost use Rattle.meaning.specs.ReadBundle.{read_edge, read_header, read_edges};

@@ -1,4 +1,6 @@
 // Reads types and expressions by position: accepts exactly the bytes that the format allows.
+#![tactic(auto)]
+
 ghost use Rattle.std.specs.Prelude.{◌≡◌, ◌+◌, ◌≤◌, length};
 ghost use Rattle.meaning.specs.Kinds.{form_of};
 ghost use Rattle.meaning.specs.ReadExpr.{body, read_expr};
@@ -8,7 +10,7 @@ ghost use Rattle.bundle.specs.View.{form_meant, operands_of, step_of, count_of};
 
 // What an expression's kind byte fixes: its body and what follows. A literal has its body length, a field reference its
 // count of names.
-#[derive(Drop)]
+#[derive(Clone, Copy)]
 pub enum ExprForm {
     Literal(u8),
     FieldRef(u8),
@@ -19,7 +21,7 @@ pub enum ExprForm {
 }
 
 // The operands of an expression: none and a body of so many bytes, one, or two. Unknown: the kind is not an expression's.
-#[derive(Drop)]
+#[derive(Clone, Copy)]
 pub enum Operands {
     None(usize),
     One,
@@ -28,7 +30,7 @@ pub enum Operands {
 }
 
 // What a type's kind byte fixes.
-#[derive(Drop)]
+#[derive(Clone, Copy)]
 pub enum TypeForm {
     Primitive,
     TypeRef,
@@ -40,7 +42,7 @@ pub enum TypeForm {
 }
 
 // What the kind byte of a record outside all types fixes.
-#[derive(Drop)]
+#[derive(Clone, Copy)]
 pub enum RecordForm {
     Header,
     Definition,
@@ -49,7 +51,7 @@ pub enum RecordForm {
 
 // What a kind byte fixes: an expression or type of a form; a member, with the length of the value behind its name; a record outside all
 // types.
-#[derive(Drop)]
+#[derive(Clone, Copy)]
 pub enum Form {
     OfExpr(ExprForm),
     OfType(TypeForm),
@@ -59,21 +61,21 @@ pub enum Form {
 }
 
 // The end of one record, or the number of the first fault in it.
-#[derive(Drop)]
+#[derive(Clone, Copy)]
 pub enum Step {
     Next(usize),
     Refused(u8),
 }
 
 // The number of members of a struct, union or enum and the end of the body that has it, or the number of the fault in that body.
-#[derive(Drop)]
+#[derive(Clone, Copy)]
 pub enum Count {
     Of(usize, usize),
     Wrong(u8),
 }
 
 // The counts of a bundle, the position of its first edge and its current name.
-#[derive(Drop)]
+#[derive(Clone, Copy)]
 pub struct Layout {
     pub definitions: usize,
     pub edges: usize,
@@ -82,14 +84,14 @@ pub struct Layout {
 }
 
 // The layout of a bundle, or the number of the fault for which its bytes are refused.
-#[derive(Drop)]
+#[derive(Clone, Copy)]
 pub enum Opening {
     Opened(Layout),
     Refused(u8),
 }
 
 // The answer to a call: the length of its result, or the number of a refusal.
-#[derive(Drop)]
+#[derive(Clone, Copy)]
 pub enum Answer {
     Accepted(usize),
     Refused(u8),
@@ -318,7 +320,7 @@ fn rebuilt(step: Step) -> Step
 }
 
 // The end of the type at `at`, where `depth` levels are left.
-#[cycle(array_at_enum_at_group_at_member_at_members_at_type_at)]
+#[cycle(types)]
 pub fn type_at(s: &[u8], at: usize, depth: usize) -> Step
     ensures { result ≡ step_of (read_ty depth s.now at) }
 {
@@ -346,7 +348,7 @@ pub fn type_at(s: &[u8], at: usize, depth: usize) -> Step
 }
 
 // The end of the struct or union whose body is at `at` and whose members are of kind `kind`; `depth` is for the types inside.
-#[cycle(array_at_enum_at_group_at_member_at_members_at_type_at)]
+#[cycle(types)]
 fn group_at(s: &[u8], at: usize, depth: usize, kind: u8) -> Step
     requires { at ≤ length s.now }
     ensures { result ≡ step_of (read_group (read_ty depth) kind s.now at) }
@@ -359,7 +361,7 @@ fn group_at(s: &[u8], at: usize, depth: usize, kind: u8) -> Step
 }
 
 // The end of the enum whose body is at `at`; `depth` is for what is inside.
-#[cycle(array_at_enum_at_group_at_member_at_members_at_type_at)]
+#[cycle(types)]
 fn enum_at(s: &[u8], at: usize, depth: usize) -> Step
     requires { at ≤ length s.now }
     ensures { result ≡ step_of (read_enum (read_expr depth) (read_ty depth) s.now at) }
@@ -378,7 +380,7 @@ fn enum_at(s: &[u8], at: usize, depth: usize) -> Step
 }
 
 // The end of the array whose body is at `at`; `depth` is for what is inside.
-#[cycle(array_at_enum_at_group_at_member_at_members_at_type_at)]
+#[cycle(types)]
 fn array_at(s: &[u8], at: usize, depth: usize) -> Step
     requires { at ≤ length s.now }
     ensures { result ≡ step_of (read_array (read_expr depth) (read_ty depth) s.now at) }
@@ -397,7 +399,7 @@ fn array_at(s: &[u8], at: usize, depth: usize) -> Step
 }
 
 // The end of the member at `at`, whose kind must be `kind`, of this form.
-#[cycle(array_at_enum_at_group_at_member_at_members_at_type_at)]
+#[cycle(types)]
 fn member_at(s: &[u8], at: usize, depth: usize, kind: u8, form: Form) -> Step
     requires { form_meant form ≡ form_of kind }
     ensures { result ≡ step_of (read_member (read_ty depth) kind s.now at) }
@@ -410,7 +412,7 @@ fn member_at(s: &[u8], at: usize, depth: usize, kind: u8, form: Form) -> Step
 }
 
 // The end of the `count` members at `at`.
-#[cycle(array_at_enum_at_group_at_member_at_members_at_type_at)]
+#[cycle(types)]
 fn members_at(s: &[u8], at: usize, depth: usize, kind: u8, count: usize) -> Step
     ensures { result ≡ step_of (read_members (read_ty depth) kind count s.now at) }
 {

@@ -5,6 +5,8 @@
 //     3 count + 1 + x       of the number x: the first edge that leads to it
 //     5 count + 1 and on    the names, a table with `BUCKETS` buckets
 // The count stands where there is no such edge.
+#![tactic(auto)]
+
 ghost use Rattle.std.specs.Prelude.{◌≡◌, ◌+◌, ◌*◌, ◌≤◌, ◌<◌, length};
 ghost use Rattle.table.specs.Table.{grown};
 ghost use Rattle.chain.specs.Edges.{graph_at, turned, HasEdges};
@@ -22,7 +24,7 @@ pub const FEW_PLACES: usize = 9 * FEW_EDGES + BUCKETS + 1;
 pub const PLACES: usize = 9 * bundle::EDGES + BUCKETS + 1;
 
 // The answer to a search.
-#[derive(Drop)]
+#[derive(Clone, Copy)]
 pub enum Found {
     // There is no chain.
     Missing,

@@ -3,6 +3,8 @@
 // answer: `refused` and a number, or how many names the chain has, of how many names the edges were followed, the chain's first name, its
 // last, and what stands behind it. On a path the names followed are all of the chain but the last; where there is no chain, all from
 // FROM to the end of the path, which is FROM alone where that has no edge.
+#![tactic(auto)]
+
 ghost use Rattle.std.specs.Prelude.{◌+◌, ◌*◌, ◌≤◌, length};
 
 use search_from::Listing;

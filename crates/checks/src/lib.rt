@@ -1,4 +1,6 @@
 // What a check finds, the parts of a reference, and the check of an array's element, under the names of the original.
+#![tactic(auto)]
+
 ghost use Rattle.std.specs.Prelude.{◌≡◌, true, false, not, ◌∷◌, ◌≤◌, length, drop};
 ghost use Rattle.meaning.specs.Limits.{size_limit};
 ghost use Rattle.meaning.specs.Lists.{holds};
@@ -15,7 +17,7 @@ ghost use Rattle.checks.specs.Checks.{PartOf, Checked, Referred};
 use fields::{Definition, Shape};
 
 // What a check finds: nothing, or a violation by its type. The chain stands beside it in a lent list.
-#[derive(Drop)]
+#[derive(Clone, Copy)]
 pub enum Check {
     Fine,
     // Type 1: the struct and the field.
@@ -43,7 +45,7 @@ pub fn set_chain(list: &mut [u16], a: u16, b: u16, c: u16)
 }
 
 // The field part of a reference.
-#[derive(Drop)]
+#[derive(Clone, Copy)]
 pub enum Part {
     One(u16),
     Other,
@@ -65,7 +67,7 @@ pub fn field_part(s: &[u8], path: usize) -> Part
 }
 
 // A field reference, and where the next record starts.
-#[derive(Drop)]
+#[derive(Clone, Copy)]
 pub enum Reference {
     At(usize, usize),
     End,

@@ -1,4 +1,6 @@
 // Whether an enum is in a struct to which its tag refers, and how far behind: one answer is kept for each name that is referred to.
+#![tactic(auto)]
+
 ghost use Rattle.std.specs.Prelude.{◌≡◌, ℕ, ◌≤◌, ◌<◌, length};
 ghost use Rattle.meaning.specs.Lists.{holds};
 ghost use Rattle.meaning.specs.Lookup.{find_type};

@@ -1,4 +1,6 @@
 // The checks of an enum tag and of an array size that search for a chain, and the check of a tag in the same struct.
+#![tactic(auto)]
+
 ghost use Rattle.std.specs.Prelude.{◌≡◌, false, ◌≤◌, length};
 ghost use Rattle.meaning.specs.Lists.{holds};
 ghost use Rattle.meaning.specs.Lookup.{find_type};
@@ -21,7 +23,7 @@ use checks::{Check, Part};
 use fields::Definition;
 
 // The reference that is checked: the name of the definition that has it, where it is written, and whether its chain is wanted in the list.
-#[derive(Drop)]
+#[derive(Clone, Copy)]
 pub struct Asked {
     pub name: u16,
     pub path: usize,

@@ -1,11 +1,13 @@
 // Numbers as decimal text: written to lines, and names read from a word.
+#![tactic(auto)]
+
 ghost use Rattle.std.specs.Prelude.{[], ◌∷◌, ◌+◌, ◌*◌, ◌≤◌, ◌<◌, length, take};
 ghost use Rattle.decimal.specs.Decimal.{decimal, lines, signed_line, Writes};
 ghost use Rattle.decimal.specs.Parsing.{IsParsed};
 ghost use Rattle.decimal.specs.Texts.{Texts};
 
 // What a word says.
-#[derive(Drop)]
+#[derive(Clone, Copy)]
 pub enum Parsed {
     Name(u16),
     No,

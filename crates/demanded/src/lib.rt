@@ -1,4 +1,6 @@
 // The calls, with the three demands as their contracts: a demand that is not proved fails this crate.
+#![tactic(auto)]
+
 ghost use Rattle.std.specs.Prelude.{[]};
 ghost use Rattle.bundle.specs.Opened.{answer_meant};
 ghost use Rattle.search_from.specs.Listing as listing;
@@ -38,7 +40,7 @@ pub fn find_layout_dependency_chain(bundle: &[u8], from: u16, to: u16, list: &mu
 }
 
 // The answers of two calls.
-#[derive(Drop)]
+#[derive(Clone, Copy)]
 pub struct Answers {
     pub first: Answer,
     pub second: Answer,

@@ -1,5 +1,7 @@
 // The three demands are stated in specs/, and what follows for every call is in proofs/. A law of this crate that a function cites, here
 // or in `demanded`, cannot go unproved.
+#![tactic(auto)]
+
 ghost use Rattle.demands.specs.Demands.{OneChain};
 ghost use Rattle.demands.specs.Idle.{Idle};
 ghost use Rattle.demands.specs.Marked.{Marked};

@@ -1,6 +1,9 @@
 // A report written where there is room for it.
+#![tactic(auto)]
+
 ghost use Rattle.std.specs.Prelude.{true, false, ◌+◌, ◌-◌, ◌*◌, ◌≤◌, length, take, drop};
-ghost use Rattle.meaning.specs.Calls.{Call, result};
+ghost use Rattle.meaning.specs.Calls.{Call};
+ghost use Rattle.meaning.specs.Calls as calls;
 ghost use Rattle.meaning.specs.Report.{report};
 ghost use Rattle.meaning.specs.Violations.{violations};
 ghost use Rattle.bundle.specs.Definitions.{bundle_of};
@@ -19,7 +22,7 @@ const DRAFT: usize = 1024;
 // Copies the places from 3 to `end` of a draft.
 fn copy_records(draft: &[u8], end: usize, out: &mut [u8])
     requires { (3 ≤ end) × (end ≤ length draft.now) × (end ≤ 1024) }
-    ensures* { λ _. ⌜ Puts (take (end - 3) (drop 3 draft.now)) out.old 3 out.new end ⌝ }
+    ensures { Puts (take (end - 3) (drop 3 draft.now)) out.old 3 out.new end }
 {
     let mut at = 3;
     while at < end {
@@ -42,7 +45,7 @@ pub fn write_report(
     requires edges_prepared { EdgesPrepared s.now layout edges.now × (7 * layout.edges + 7 ≤ length work.old) }
     requires layout_of { LayoutOf s.now layout places.now × (length (violations (bundle_of s.now)) ≤ 65535) × Noted s.now places.now layout.definitions }
     requires acyclic { Acyclic s.now × Kept s.now false kept.old × Kept s.now true nested.old }
-    ensures* { λ r. ⌜ Call (result (report (bundle_of s.now))) out.old out.new (answer_meant r) ⌝ }
+    ensures { Call (calls.result (report (bundle_of s.now))) out.old out.new (answer_meant result) }
 {
     let start = Position { at: 3, count: 0 };
     let mut draft = [0u8; DRAFT];

@@ -1,4 +1,6 @@
 // The value of an expression of a bundle, and the counts of arrays.
+#![tactic(auto)]
+
 ghost use Rattle.std.specs.Prelude.{◌≡◌, ◌+◌, ◌≤◌, length, get_or};
 ghost use Rattle.meaning.specs.Kinds.{OfExpr, Binary, form_of};
 ghost use Rattle.meaning.specs.Reader.{little};
@@ -16,7 +18,7 @@ use extents::Counted;
 use values::Valued;
 
 // The value of an expression and where it ends, or the number of the refusal that is met first.
-#[derive(Drop)]
+#[derive(Clone, Copy)]
 pub enum Evaluated {
     Value(i64, usize),
     Refused(u8),
@@ -47,7 +49,7 @@ fn with_end(value: Valued, end: usize) -> Evaluated
 }
 
 // The value and the end of the expression that was read at `at`.
-#[cycle(binary_at_value_at)]
+#[cycle(values)]
 fn value_at(s: &[u8], at: usize, depth: usize) -> Evaluated
     requires { Reads (read_expr depth s.now at) }
     ensures { Evaluates depth s.now at result }
@@ -72,7 +74,7 @@ fn value_at(s: &[u8], at: usize, depth: usize) -> Evaluated
 }
 
 // The same for a binary expression: its kind is tested before its sides, and the left side is worked out first.
-#[cycle(binary_at_value_at)]
+#[cycle(values)]
 fn binary_at(s: &[u8], at: usize, depth: usize) -> Evaluated
     requires { Reads (read_expr depth s.now at) × (form_of (get_or s.now at 0) ≡ OfExpr Binary) }
     ensures { Evaluates depth s.now at result }

@@ -3,6 +3,8 @@
 // and 0 where it is no struct or has no field; then come the places where the lists of references start (crate notes), and then the parts.
 // A part has the count of fields and the count of their names, then for each name the index of the first field that has it, then for each
 // the index of the last, then a tree of the names, then for each field where its type leads.
+#![tactic(auto)]
+
 ghost use Rattle.std.specs.Prelude.{◌≡◌, cond, List, ◌+◌, ◌*◌, ◌≤◌, ◌<◌, length, get_or};
 ghost use Rattle.meaning.specs.Lists.{last_index};
 ghost use Rattle.meaning.specs.Lookup.{list_of, as_type_ref};

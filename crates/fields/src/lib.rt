@@ -1,4 +1,6 @@
 // Types, fields and definitions of an opened bundle by their positions.
+#![tactic(auto)]
+
 ghost use Rattle.std.specs.Prelude.{◌≡◌, ◌<◌, get_or};
 ghost use Rattle.meaning.specs.ReadType.{read_ty, read_member};
 ghost use Rattle.bundle.specs.declared.Step.TheVariants.{Next};
@@ -9,7 +11,7 @@ ghost use Rattle.fields.specs.Shapes.{ShapeOf, FieldAt, PlacedAt, Defines};
 use bundle::{Count, Form, Step, TypeForm};
 
 // What a type's kind byte and body say: the count of a struct's fields, an array's jagged byte, a TypeRef's name.
-#[derive(Drop)]
+#[derive(Clone, Copy)]
 pub enum Shape {
     Struct(usize),
     Enum,
@@ -19,7 +21,7 @@ pub enum Shape {
 }
 
 // A field's name, and where its type starts and ends.
-#[derive(Drop)]
+#[derive(Clone, Copy)]
 pub struct Field {
     pub name: u16,
     pub at: usize,
@@ -27,7 +29,7 @@ pub struct Field {
 }
 
 // A definition's name, and where its type starts.
-#[derive(Drop)]
+#[derive(Clone, Copy)]
 pub struct Place {
     pub name: u16,
     pub at: usize,
@@ -124,7 +126,7 @@ pub fn end_of(s: &[u8], places: &[u16], count: usize, i: usize) -> usize
 }
 
 // The first definition of a name: its number, and where its type starts.
-#[derive(Drop)]
+#[derive(Clone, Copy)]
 pub enum Definition {
     At(usize, usize),
     Nowhere,

@@ -1,4 +1,6 @@
 // The call for one chain of a bundle, with the count of the names whose edges were followed.
+#![tactic(auto)]
+
 ghost use Rattle.std.specs.Prelude.{◌≡◌, ℕ, ◌+◌, ◌*◌, ◌≤◌, length, get_or};
 ghost use Rattle.chain.specs.Edges.{graph_at, HasEdges};
 ghost use Rattle.search_from.specs.Listing.{Lists};

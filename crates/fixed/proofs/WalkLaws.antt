@@ -50,6 +50,7 @@ counted_there : (s : List ℕ) (at : ℕ) → Reads (head 2 s at) → Of (little
 counted_there s at r = go (head 2 s at) refl r
   where
     go : (x : Read Head) → head 2 s at ≡ x → Reads x → Of (little s (at + 9) 2) (at + 11) ≡ count_of x
+    go (refused _) e r = elim r [ ]
     go (ok h m) e r =
         let z : at + 1 + 8 ≡ at + 9 = omega arith in
         let p : little s (at + 9) 2 ≡ h.last = sym ((head_last 2 at m s h e).0 ∙ ap (λ i. little s i 2) z) in

@@ -1,4 +1,6 @@
 // The size and alignment of types, where those of the definitions are kept.
+#![tactic(auto)]
+
 ghost use Rattle.std.specs.Prelude.{◌≡◌, ◌+◌, ◌≤◌, ◌<◌, length, get_or};
 ghost use Rattle.meaning.specs.Kinds.{OfType, Primitive, form_of};
 ghost use Rattle.meaning.specs.Reader.{little};
@@ -19,7 +21,7 @@ use extents::Extent;
 pub const KEPT: usize = 2 * bundle::DEFINITIONS;
 
 // The extent of a type or of its members, and where it ends.
-#[derive(Drop)]
+#[derive(Clone, Copy)]
 pub struct Measured {
     pub extent: Extent,
     pub end: usize,
@@ -65,7 +67,7 @@ fn measure_name(s: &[u8], places: &[u16], count: usize, kept: &[u64], at: usize)
 }
 
 // The extent and the end of the type that was read at `at`.
-#[cycle(measure_array_measure_enum_measure_group_measure_members_measure_type)]
+#[cycle(measures)]
 pub fn measure_type(
     s: &[u8],
     places: &[u16],
@@ -104,7 +106,7 @@ pub fn measure_type(
 }
 
 // The same for the struct or union whose body is at `at` and whose members are of kind `kind`.
-#[cycle(measure_array_measure_enum_measure_group_measure_members_measure_type)]
+#[cycle(measures)]
 fn measure_group(
     s: &[u8],
     places: &[u16],
@@ -127,7 +129,7 @@ fn measure_group(
 }
 
 // The same for the enum whose body is at `at`.
-#[cycle(measure_array_measure_enum_measure_group_measure_members_measure_type)]
+#[cycle(measures)]
 fn measure_enum(
     s: &[u8],
     places: &[u16],
@@ -156,7 +158,7 @@ fn measure_enum(
 }
 
 // The same for the array whose body is at `at`.
-#[cycle(measure_array_measure_enum_measure_group_measure_members_measure_type)]
+#[cycle(measures)]
 fn measure_array(
     s: &[u8],
     places: &[u16],
@@ -185,7 +187,7 @@ fn measure_array(
 }
 
 // The n members of kind `kind` that were read at `at`, joined.
-#[cycle(measure_array_measure_enum_measure_group_measure_members_measure_type)]
+#[cycle(measures)]
 fn measure_members(
     s: &[u8],
     places: &[u16],

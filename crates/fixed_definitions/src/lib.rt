@@ -1,4 +1,6 @@
 // The size and alignment of the definitions of a bundle, one kept answer for each.
+#![tactic(auto)]
+
 ghost use Rattle.std.specs.Prelude.{false, ◌∷◌, [], ◌≡◌, ◌<◌};
 ghost use Rattle.meaning.specs.Circle.{circles};
 ghost use Rattle.bundle.specs.Definitions.{bundle_of, Table};

@@ -1,4 +1,6 @@
 // The call for a fixed size, with demand 1 as its contract: a demand that is not proved fails this crate.
+#![tactic(auto)]
+
 ghost use Rattle.fixed_demand.specs.Demand.{FixedDemand};
 
 use offsets::Fixed;

@@ -1,4 +1,6 @@
 // The count of the names whose edges a search follows: its meaning, and laws. One that is not proved fails this crate.
+#![tactic(auto)]
+
 ghost use Rattle.followed.specs.Laws.{Counts};
 ghost use Rattle.followed.specs.Examples.{Examples};
 

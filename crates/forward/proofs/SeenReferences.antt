@@ -116,7 +116,7 @@ module _ {s places : List ℕ} {end n j : ℕ} {ps : List ℕ} where
 
     pub seen_stop : {r : ℕ} → ((k : ℕ) → from + 3 * k ≡ end → r ≡ later_from places n j k from) → Stopped s places end n j ps r
     seen_stop h =
-        let w = stop_at s places end n j c.rest from c.lists c.ranges in
+        let w = stop_at s places end n j c.rest from c.lists c.fits in
         rw (h (length c.rest) (lists_length s places end from c.rest c.lists)) record {
           seen = record { rest = w.seen.rest; lists = w.seen.lists; fits = w.seen.fits; same = λ k l. w.seen.same k l ∙ c.same k l };
           here = w.here;
@@ -155,7 +155,7 @@ stop_forward {s} {places} t i l {end} {n} {j} c q =
     let e = (place_ends t i l).1 in
     forward_in s n j (get_or places i 0) (get_or places (i + 1) 0 - 3) e record {
       first = q ∙ c.here ∙ ap position_shown (c.seen.same j (omega arith) ∙ needed_first s (get_or places i 0) (get_or places (i + 1) 0 - 3) e n j);
-      fit = subst (FitIn s) (sym q) (found_fits s c.seen.rest c.seen.ranges);
+      fit = subst (FitIn s) (sym q) (found_fits s c.seen.rest c.seen.fits);
     }
 
 -- where the search in the list of definition i starts

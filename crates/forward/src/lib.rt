@@ -1,4 +1,6 @@
 // The check of one field of a struct: type 4, under the names of the original.
+#![tactic(auto)]
+
 ghost use Rattle.std.specs.Prelude.{◌≡◌, cond, ℕ, ◌+◌, ◌*◌, ◌≤◌, ◌<◌, ltb, length, get_or};
 ghost use Rattle.meaning.specs.Tree.{member};
 ghost use Rattle.meaning.specs.ReadType.{read_ty};

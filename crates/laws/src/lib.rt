@@ -1,4 +1,6 @@
 // Laws of the meaning that no code needs, each the contract of a function, so that one that is not proved fails this crate.
+#![tactic(auto)]
+
 ghost use Rattle.laws.specs.Equations.{SizeEquations, JaggedEquations};
 ghost use Rattle.laws.specs.Exchanges.{Named, Exchanges};
 ghost use Rattle.laws.specs.Examples.{Examples};

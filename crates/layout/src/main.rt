@@ -1,6 +1,8 @@
 // Reads a bundle from standard input and writes what the program's arguments ask for to standard output: its report, the bundle with
 // its names renumbered, a chain, also with the count of followed names, the size of a definition, or the value of an array's size; for a
 // refused bundle 7E and the number of its refusal. Messages go to standard error, as when one of the two fails.
+#![tactic(auto)]
+
 ghost use Rattle.std.specs.Prelude.{◌≡◌, ◌≤◌, length};
 ghost use Rattle.layout.specs.Reading.{TurnWithin, ReadInto};
 ghost use Rattle.responses.specs.Response.{Holds};

@@ -1,5 +1,7 @@
 // The calls for C and Rust. A call answers 0 where it is accepted, and else the number of the refusal. The length of a result goes
 // to `written`, which a refusal leaves as it was.
+#![tactic(auto)]
+
 ghost use Rattle.std.specs.Prelude.{◌≡◌};
 ghost use Rattle.meaning.specs.Due.{reporting, renumbering, chaining};
 ghost use Rattle.bundle.specs.Opened.{answer_meant};

@@ -1,4 +1,6 @@
 // Runs the cases on standard input through the reader, and writes each label with its answer.
+#![tactic(auto)]
+
 ghost use Rattle.std.specs.Prelude.{◌<◌};
 
 use bundle::Answer;

@@ -1,4 +1,6 @@
 // The first definition of a name in a bundle that was read.
+#![tactic(auto)]
+
 ghost use Rattle.std.specs.Prelude.{◌≡◌};
 ghost use Rattle.meaning.specs.Lookup.{definition_of};
 ghost use Rattle.bundle.specs.Definitions.{bundle_of, Table};

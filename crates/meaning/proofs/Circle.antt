@@ -23,6 +23,7 @@ use Rattle.meaning.specs.Lookup.{count, type_at, definition_of}
 use Rattle.meaning.specs.Circle.{resolve, names_in, leads_to, Leads, direct, onward, settled, numbers_below, circles}
 
 below_mem : (k i : ℕ) → Memᴰ i (numbers_below k) → i < k
+below_mem zero i x' = elim x' [ ]
 below_mem (suc k) i (Memᴰ.head e) = omega arith
 below_mem (suc k) i (Memᴰ.tail m) = omega (arith, below_mem k i m)
 
@@ -37,6 +38,7 @@ mem_below (suc k) i h = go (ℕ_discrete i k) (mem_below k i)
 module _ (b : Bundle) where
   -- what the names lead to are definitions
   pub resolve_below : (ns : List ℕ) (j : ℕ) → Memᴰ j (resolve b ns) → j < count b
+  resolve_below [] j m = elim m [ ]
   resolve_below (n ∷ ns) j m = go (ltb (definition_of b n) (count b)) refl m (resolve_below ns j)
     where
       go : (t : Bool) → ltb (definition_of b n) (count b) ≡ t → Memᴰ j (cond t (definition_of b n ∷ resolve b ns) (resolve b ns))
@@ -45,7 +47,7 @@ module _ (b : Bundle) where
       go true e (Memᴰ.tail m) ih = ih m
       go false e m ih = ih m
 
-  pub resolve_mem : {ns : List ℕ} {n : ℕ} → Memᴰ n ns → definition_of b n < count b → Memᴰ (definition_of b n) (resolve b ns)
+  pub resolve_mem : {n : ℕ} {ns : List ℕ} → Memᴰ n ns → definition_of b n < count b → Memᴰ (definition_of b n) (resolve b ns)
   resolve_mem {n = n} (Memᴰ.head {x = x} {xs = ns} e) h = rw e (rw (lt-ltb (definition_of b x) (count b) (rw e at h)) (Memᴰ.head refl))
   resolve_mem {n = n} (Memᴰ.tail {x = x} {xs = ns} m) h = go (ltb (definition_of b x) (count b)) (resolve_mem m h)
     where
@@ -113,6 +115,7 @@ module _ (b : Bundle) where
       (f.0 ∷ r.0, ap suc r.1, step f.1 r.2)
 
   reach : {i x : ℕ} {js : List ℕ} → Walk i js → Memᴰ x js → Leads b i x
+  reach (stop {i = i}) x7 = elim x7 [ ]
   reach (step m w) (Memᴰ.head e) = rw e (direct m)
   reach (step m w) (Memᴰ.tail l) = onward m (reach w l)
 

@@ -47,17 +47,18 @@ total : List ℕ → ℕ
 total [] = 0
 total (x ∷ xs) = x + total xs
 
-at_most_total : {xs : List ℕ} {x : ℕ} → Memᴰ x xs → x ≤ total xs
+at_most_total : {x : ℕ} {xs : List ℕ} → Memᴰ x xs → x ≤ total xs
 unfolding total
 at_most_total (Memᴰ.head e) = omega arith
 at_most_total (Memᴰ.tail m) = omega (arith, at_most_total m)
 
-absent_not : (n : ℕ) {xs : List ℕ} {x : ℕ} → Absent n xs → Memᴰ x xs → x ≡ n → ⊥
+absent_not : (n : ℕ) {x : ℕ} {xs : List ℕ} → Absent n xs → Memᴰ x xs → x ≡ n → ⊥
 absent_not n a (Memᴰ.head e) q = a.0 (sym q ∙ e)
 absent_not n a (Memᴰ.tail m) q = absent_not n a.1 m q
 
 -- what a map leaves as it is, it leaves number by number
 fixed_at : (f : ℕ → ℕ) (xs : List ℕ) → map f xs ≡ xs → (x : ℕ) → Memᴰ x xs → f x ≡ x
+fixed_at f [] e x x4 = elim x4 [ ]
 fixed_at f (y ∷ ys) e x (Memᴰ.head q) = rw q (head-eq_of_cons-eq e)
 fixed_at f (y ∷ ys) e x (Memᴰ.tail m) = fixed_at f ys (tail-eq_of_cons-eq e) x m
 

@@ -33,9 +33,11 @@ ordered b [] = true
 ordered b (row lo hi f ∷ rows) = leb b lo && (leb lo hi && ordered (suc hi) rows)
 
 pub and_0 : (a b : Bool) → T (a && b) → T a
+and_0 false b p = elim p [ ]
 and_0 true b p = tt
 
 pub and_1 : (a b : Bool) → T (a && b) → T b
+and_1 false b p = elim p [ ]
 and_1 true b p = p
 
 and_false : (b : Bool) → (b && false) ≡ false

@@ -15,6 +15,7 @@ use Rattle.meaning.specs.Lists.{enumerate, flat_map, push, filter_map, or_else, 
 -- Tests of every element.
 
 pub all_of : {A : Type 0} (p : A → Bool) (xs : List A) → all p xs ≡ true → (x : A) → Memᴰ x xs → p x ≡ true
+all_of {A = A} p [] h x m = elim m [ ]
 all_of p (y ∷ ys) h x m = go (p y) refl h m (all_of p ys)
   where
     go : (t : Bool) → p y ≡ t → (t && all p ys) ≡ true → Memᴰ x (y ∷ ys)

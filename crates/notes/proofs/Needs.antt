@@ -74,7 +74,7 @@ same_list_refl : (xs : List ℕ) → same_list xs xs ≡ true
 same_list_refl [] = refl
 same_list_refl (x ∷ xs) = rw (eq-eqb x x refl) (same_list_refl xs)
 
-any_mem : {A : Type 0} (p : A → Bool) {xs : List A} {x : A} → p x ≡ true → Memᴰ x xs → any p xs ≡ true
+any_mem : {A : Type 0} (p : A → Bool) {x : A} {xs : List A} → p x ≡ true → Memᴰ x xs → any p xs ≡ true
 any_mem p e (Memᴰ.head {x = y} q) = rw (← q, e)
 any_mem p e (Memᴰ.tail {x = y} m) = or_true (p y) (any_mem p e m)
 

@@ -1,5 +1,7 @@
 // What is noted of a bundle: the references of its definitions, each with the field to which it leads, behind the notes of the fields.
 // A list has for each reference the name of the type that it means, one more than the index of the field, and where it is written.
+#![tactic(auto)]
+
 ghost use Rattle.std.specs.Prelude.{◌≡◌, ◌+◌, ◌*◌, ◌≤◌, ◌<◌, length};
 ghost use Rattle.meaning.specs.Limits.{size_limit};
 ghost use Rattle.meaning.specs.ReadType.{read_ty};

@@ -1,4 +1,6 @@
 // The call for the size, alignment and field offsets of a definition that never varies.
+#![tactic(auto)]
+
 ghost use Rattle.std.specs.Prelude.{false, ◌++◌, ◌≡◌, ◌≤◌, ◌<◌, length, drop};
 ghost use Rattle.meaning.specs.Circle.{circles};
 ghost use Rattle.meaning.specs.ReadType.{read_ty, read_members};
@@ -15,14 +17,14 @@ use bundle::{Form, Opening, Step, TypeForm};
 use extents::Extent;
 
 // The answer: size, alignment and the length of the list of offsets, or the number of a refusal.
-#[derive(Drop)]
+#[derive(Clone, Copy)]
 pub enum Fixed {
     Sized(u64, u64, usize),
     Refused(u8),
 }
 
 // The fields of a struct: packed, how many and where the first is; or no struct.
-#[derive(Drop)]
+#[derive(Clone, Copy)]
 pub enum Fields {
     Of(u8, usize, usize),
     Nothing,

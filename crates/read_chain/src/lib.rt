@@ -1,4 +1,6 @@
 // The chains to one name read off the search for them: where each chain goes on is said by hops, which are set when the first is read off.
+#![tactic(auto)]
+
 ghost use Rattle.std.specs.Prelude.{◌≡◌, map, ℕ, suc, ◌+◌, ◌*◌, ◌≤◌, ◌<◌, length, get_or, take};
 ghost use Rattle.meaning.specs.Chain.{chain_of};
 ghost use Rattle.chain.specs.Found.{Answers};

@@ -1,4 +1,6 @@
 // Reads the records outside all types: what opens each of them, a definition with its type, and the header.
+#![tactic(auto)]
+
 ghost use Rattle.std.specs.Prelude.{◌≡◌, ◌+◌, ◌*◌};
 ghost use Rattle.meaning.specs.Kinds.{form_of};
 ghost use Rattle.meaning.specs.ReadBundle.{opening, read_definition, read_header};
@@ -8,7 +10,7 @@ ghost use Rattle.records.specs.Header.{counts_of};
 use bundle::{Form, RecordForm, Step};
 
 // The numbers of definitions and edges and the end of the header, or the number of the fault in the header.
-#[derive(Drop)]
+#[derive(Clone, Copy)]
 pub enum Counts {
     Each(usize, usize, usize),
     Bad(u8),

@@ -1,4 +1,6 @@
 // Renumbers the names of a bundle by first appearance.
+#![tactic(auto)]
+
 ghost use Rattle.std.specs.Prelude.{◌≡◌, ◌++◌, ◌+◌, ◌*◌, ◌≤◌, ◌<◌, length, drop};
 ghost use Rattle.names.specs.Records.{Whole, renumber_bytes};
 ghost use Rattle.table.specs.Table.{Members};
@@ -14,7 +16,7 @@ ghost use Rattle.renumber.specs.Scan.{due, name_first, behind, Put};
 use bundle::{Answer, ExprForm, Form, Opening, RecordForm, TypeForm};
 
 // The parts of a record's body that are still to come: bytes, then names, then bytes.
-#[derive(Drop)]
+#[derive(Clone, Copy)]
 struct Parts(u8, u8, u8);
 
 // The parts of the body of a record of this form.

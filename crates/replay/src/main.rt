@@ -1,5 +1,7 @@
 // Replays stored cases: runs the report, the renumbering, the fixed size, the value or the chain with its count on each bundle and compares
 // with the stored answer.
+#![tactic(auto)]
+
 use libc::{STDIN_FILENO, STDOUT_FILENO};
 use offsets::Fixed;
 use search_from::Listing;
@@ -98,7 +100,7 @@ fn answered(kind: u8, space: &[u8], n: usize, due: &[u8], m: usize) -> bool {
 
 // What a case starts with: 0 for a report, 1 for a renumbering, 2 for a fixed size, 3 for a value or 4 for a count with its chain, and the
 // lengths of what is asked and of the answer.
-#[derive(Drop)]
+#[derive(Clone, Copy)]
 pub enum Head {
     Case(u8, usize, usize),
     End,
@@ -129,7 +131,7 @@ fn run_case(kind: u8, n: usize, m: usize) -> bool {
 }
 
 // How many cases gave the answer due, and how many another one.
-#[derive(Drop)]
+#[derive(Clone, Copy)]
 pub struct Tally {
     pub same: u64,
     pub other: u64,

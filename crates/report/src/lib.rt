@@ -1,4 +1,6 @@
 // The report of a bundle: its violations as bytes, or the number for which it is refused.
+#![tactic(auto)]
+
 ghost use Rattle.meaning.specs.Calls.{Call};
 ghost use Rattle.meaning.specs.Due.{reporting};
 ghost use Rattle.bundle.specs.Opened.{answer_meant};

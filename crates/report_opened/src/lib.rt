@@ -1,6 +1,9 @@
 // The report of a bundle that is opened: its edges are prepared, and its violations written.
+#![tactic(auto)]
+
 ghost use Rattle.std.specs.Prelude.{◌≡◌, false, ◌+◌, ◌*◌, ◌≤◌, length};
-ghost use Rattle.meaning.specs.Calls.{Call, result};
+ghost use Rattle.meaning.specs.Calls.{Call};
+ghost use Rattle.meaning.specs.Calls as calls;
 ghost use Rattle.meaning.specs.Circle.{circles};
 ghost use Rattle.meaning.specs.Report.{report};
 ghost use Rattle.bundle.specs.Definitions.{bundle_of};
@@ -20,7 +23,7 @@ fn report_with(
 ) -> Answer
     requires edges_in_bounds { (9 * layout.edges + 257 ≤ length edges.old) × (7 * layout.edges + 7 ≤ length work.old) }
     requires layout_of { LayoutOf s.now layout places.now × (circles (bundle_of s.now) ≡ false) × Noted s.now places.now layout.definitions }
-    ensures* { λ r. ⌜ Call (result (report (bundle_of s.now))) out.old out.new (answer_meant r) ⌝ }
+    ensures { Call (calls.result (report (bundle_of s.now))) out.old out.new (answer_meant result) }
 {
     let mut kept = [0u8; bundle::DEFINITIONS];
     let mut nested = [0u8; bundle::DEFINITIONS];
@@ -32,7 +35,7 @@ fn report_with(
 pub fn report_few(s: &[u8], places: &[u16], layout: Layout, out: &mut [u8]) -> Answer
     requires edges_bound { layout.edges ≤ 64 }
     requires layout_of { LayoutOf s.now layout places.now × (circles (bundle_of s.now) ≡ false) × Noted s.now places.now layout.definitions }
-    ensures* { λ r. ⌜ Call (result (report (bundle_of s.now))) out.old out.new (answer_meant r) ⌝ }
+    ensures { Call (calls.result (report (bundle_of s.now))) out.old out.new (answer_meant result) }
 {
     let mut edges = [0u16; chain::FEW_PLACES];
     let mut work = [0u16; search::FEW_PLACES];
@@ -42,7 +45,7 @@ pub fn report_few(s: &[u8], places: &[u16], layout: Layout, out: &mut [u8]) -> A
 // The report of an opened bundle with any edges.
 pub fn report_many(s: &[u8], places: &[u16], layout: Layout, out: &mut [u8]) -> Answer
     requires { LayoutOf s.now layout places.now × (circles (bundle_of s.now) ≡ false) × Noted s.now places.now layout.definitions }
-    ensures* { λ r. ⌜ Call (result (report (bundle_of s.now))) out.old out.new (answer_meant r) ⌝ }
+    ensures { Call (calls.result (report (bundle_of s.now))) out.old out.new (answer_meant result) }
 {
     let mut edges = [0u16; chain::PLACES];
     let mut work = [0u16; search::PLACES];

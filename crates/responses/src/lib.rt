@@ -1,7 +1,10 @@
 // What the program writes to standard output for each order: a report, a renumbered bundle, a chain, also with the count of followed
 // names, the size of a definition, or the value of an array's size; for a refused bundle 7E and the number of its refusal.
+#![tactic(auto)]
+
 ghost use Rattle.std.specs.Prelude.{List, [], ◌∷◌, ℕ, ◌≤◌, length};
-ghost use Rattle.meaning.specs.Calls.{Outcome, result, Call};
+ghost use Rattle.meaning.specs.Calls.{Outcome, Call};
+ghost use Rattle.meaning.specs.Calls as calls;
 ghost use Rattle.meaning.specs.Due.{reporting, renumbering, chaining};
 ghost use Rattle.decimal.specs.Decimal.{lines, Writes};
 ghost use Rattle.followed.specs.Followed.{following};
@@ -28,7 +31,7 @@ pub const ROOM: usize = 98304;
 // Puts 7E and the number of a refusal into the first places of `out`. Returns how many bytes that are, as all functions here do.
 fn put_refusal(k: u8, out: &mut [u8]) -> usize
     requires { 2 ≤ length out.old }
-    ensures* { λ r. ⌜ Holds (refusal_bytes k) out.new r ⌝ }
+    ensures { Holds (refusal_bytes k) out.new result }
 {
     out[0] = 0x7E;
     out[1] = k;
@@ -38,7 +41,7 @@ fn put_refusal(k: u8, out: &mut [u8]) -> usize
 // What a call left in `out`, or the refusal that it answered.
 fn finish(answer: Answer, out: &mut [u8]) -> usize
     requires { 2 ≤ length out.old }
-    ensures* { λ r. ⌜ ((o : Outcome) (before : List ℕ) → Call o before out.old (answer_meant answer) → Holds (response_to o (length before)) out.new r) ⌝ }
+    ensures { (o : Outcome) (before : List ℕ) → Call o before out.old (answer_meant answer) → Holds (response_to o (length before)) out.new result }
 {
     match answer {
         Answer::Accepted(n) => n,
@@ -49,7 +52,7 @@ fn finish(answer: Answer, out: &mut [u8]) -> usize
 // The report.
 fn respond(bundle: &[u8], out: &mut [u8]) -> usize
     requires { 65536 ≤ length out.old }
-    ensures* { λ r. ⌜ Holds (response_to (reporting bundle.now) 65536) out.new r ⌝ }
+    ensures { Holds (response_to (reporting bundle.now) 65536) out.new result }
 {
     let room = &mut out[..REPORT_ROOM];
     let answer = report::report(bundle, room);
@@ -59,7 +62,7 @@ fn respond(bundle: &[u8], out: &mut [u8]) -> usize
 // The bundle with its names renumbered.
 fn respond_renumbered(bundle: &[u8], out: &mut [u8]) -> usize
     requires { 65536 ≤ length out.old }
-    ensures* { λ r. ⌜ Holds (response_to (renumbering bundle.now) 65536) out.new r ⌝ }
+    ensures { Holds (response_to (renumbering bundle.now) 65536) out.new result }
 {
     let room = &mut out[..REPORT_ROOM];
     let answer = renumber::renumber(bundle, room);
@@ -69,7 +72,7 @@ fn respond_renumbered(bundle: &[u8], out: &mut [u8]) -> usize
 // Puts the count of followed names onto a line, if it is asked for.
 fn put_count(counted: bool, followed: usize, out: &mut [u8]) -> usize
     requires { 21 ≤ length out.old }
-    ensures* { λ r. ⌜ Writes (lines (count_for counted (result (followed ∷ [])))) out.old 0 out.new r × (r ≤ 21) ⌝ }
+    ensures { Writes (lines (count_for counted (calls.result (followed ∷ [])))) out.old 0 out.new result × (result ≤ 21) }
 {
     if counted {
         return decimal::put_line(out, 0, followed as u64);
@@ -80,7 +83,7 @@ fn put_count(counted: bool, followed: usize, out: &mut [u8]) -> usize
 // The names of the chain, each to a line, behind the count of followed names if it is asked for.
 fn respond_chain(bundle: &[u8], from: u16, to: u16, counted: bool, out: &mut [u8]) -> usize
     requires { 6171 ≤ length out.old }
-    ensures* { λ r. ⌜ Holds (lines_to (count_for counted (following from to bundle.now)) (chaining from to bundle.now)) out.new r ⌝ }
+    ensures { Holds (lines_to (count_for counted (following from to bundle.now)) (chaining from to bundle.now)) out.new result }
 {
     let mut list = [0u16; bundle::CHAIN_LIMIT];
     let answer = find_chain::find_layout_dependency_chain(bundle, from, to, &mut list);
@@ -96,7 +99,7 @@ fn respond_chain(bundle: &[u8], from: u16, to: u16, counted: bool, out: &mut [u8
 // The size, the alignment and the offsets of a definition, each to a line.
 fn respond_size(bundle: &[u8], definition: u16, out: &mut [u8]) -> usize
     requires { 90154 ≤ length out.old }
-    ensures* { λ r. ⌜ Holds (size_to (sizing definition bundle.now) (placing definition bundle.now) 8192) out.new r ⌝ }
+    ensures { Holds (size_to (sizing definition bundle.now) (placing definition bundle.now) 8192) out.new result }
 {
     let mut list = [0u32; FIELD_ROOM];
     let answer = offsets::fixed_size(bundle, definition as usize, &mut list);
@@ -113,7 +116,7 @@ fn respond_size(bundle: &[u8], definition: u16, out: &mut [u8]) -> usize
 // The value of the size of a definition, on a line.
 fn respond_value(bundle: &[u8], definition: u16, out: &mut [u8]) -> usize
     requires { 21 ≤ length out.old }
-    ensures* { λ r. ⌜ Holds (value_to (valuing definition bundle.now)) out.new r ⌝ }
+    ensures { Holds (value_to (valuing definition bundle.now)) out.new result }
 {
     let value = size_value::size_value(bundle, definition as usize);
     match value {
@@ -125,7 +128,7 @@ fn respond_value(bundle: &[u8], definition: u16, out: &mut [u8]) -> usize
 // What an order gets for a bundle.
 pub fn answer(order: Order, bundle: &[u8], out: &mut [u8]) -> usize
     requires { 90154 ≤ length out.old }
-    ensures* { λ r. ⌜ Holds (answer_to order bundle.now) out.new r ⌝ }
+    ensures { Holds (answer_to order bundle.now) out.new result }
 {
     match order {
         Order::Report => respond(bundle, out),

@@ -1,4 +1,6 @@
 // Records lie one after another: how long each is, and which of them a walk over a type stops at.
+#![tactic(auto)]
+
 ghost use Rattle.std.specs.Prelude.{cond, ◌&&◌, ◌≡◌, ◌+◌, ◌≤◌, ◌<◌, eqb, length, get_or};
 ghost use Rattle.bundle.specs.View.{form_meant};
 ghost use Rattle.scan.specs.declared.Piece.TheVariants.{Stops, Length};
@@ -8,7 +10,7 @@ ghost use Rattle.scan.specs.Scan.{record_length, part_of, part_at, Records, Next
 use bundle::{ExprForm, Form, TypeForm};
 
 // A record in a scan: one at which the walk stops, or another of some length.
-#[derive(Drop)]
+#[derive(Clone, Copy)]
 pub enum Piece {
     Stops,
     Length(usize),

@@ -9,6 +9,8 @@
 //     6 count + 1           how many entries the queue has
 //     6 count + 2           the entry that is next
 //     6 count + 3 and on    the list for a chain
+#![tactic(auto)]
+
 ghost use Rattle.std.specs.Prelude.{◌≡◌, ℕ, ◌+◌, ◌*◌, ◌≤◌, ◌<◌, length, get_or};
 ghost use Rattle.chain.specs.Index.{Indexed};
 ghost use Rattle.search.specs.Work.{far_in, entries_in, next_in, Paused, AfterEntry, Settled, Added, Measured, Lent};

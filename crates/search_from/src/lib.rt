@@ -4,6 +4,8 @@
 //     3 x          how many names the chain of the number x has, and 0 where x is not marked
 //     3 x + 1      entry x of the queue, a number
 //     3 x + 2      the number before x on its chain
+#![tactic(auto)]
+
 ghost use Rattle.std.specs.Prelude.{◌≡◌, List, map, ◌++◌, ℕ, suc, ◌+◌, ◌*◌, ◌≤◌, ◌<◌, length, get_or, drop};
 ghost use Rattle.chain.specs.Edges.{turned};
 ghost use Rattle.chain.specs.Index.{names_in, name_in, named, Indexed};
@@ -17,7 +19,7 @@ pub const FEW_PLACES: usize = 6 * chain::FEW_EDGES + 3;
 pub const PLACES: usize = 6 * bundle::EDGES + 3;
 
 // The answer: how many names the chain has, 0 where there is none, and of how many names the edges were followed; or a refusal.
-#[derive(Drop)]
+#[derive(Clone, Copy)]
 pub enum Listing {
     Listed(usize, usize),
     Refused(u8),

@@ -1,4 +1,6 @@
 // The two size tests and the jagged test: whether the size of a type depends on field references, and whether a jagged array is inside it.
+#![tactic(auto)]
+
 ghost use Rattle.std.specs.Prelude.{true, false, List, ◌∷◌, [], ◌≡◌, ◌≤◌, ◌<◌, length, get_or};
 ghost use Rattle.meaning.specs.Kinds.{OfType, Enum, Array, form_of};
 ghost use Rattle.meaning.specs.Limits.{size_limit};
@@ -22,7 +24,7 @@ fn mark_of(holds: bool) -> u8
 }
 
 // The named-type test by the definition's own record, with the tag or size behind it: it holds, or it is up to the records from there on.
-#[derive(Drop)]
+#[derive(Clone, Copy)]
 pub enum Head {
     Holds,
     From(usize),
@@ -86,7 +88,7 @@ fn head_test(s: &[u8], at: usize, end: usize, jagged: bool) -> Head
 
 // The named-type test of definition `i`: for jagged arrays, or of the size. `left` definitions may still be gone through, one
 // inside another. `kept` has 0 for a definition whose answer is not known yet, 1 for no and 2 for yes.
-#[cycle(inline_type_test_named_type_test)]
+#[cycle(tests)]
 fn named_type_test(
     s: &[u8],
     places: &[u16],
@@ -118,7 +120,7 @@ fn named_type_test(
 }
 
 // The inline-type test of the records from `at` to `end`.
-#[cycle(inline_type_test_named_type_test)]
+#[cycle(tests)]
 fn inline_type_test(
     s: &[u8],
     places: &[u16],

@@ -1,4 +1,6 @@
 // The call for the value of an array's size.
+#![tactic(auto)]
+
 ghost use Rattle.std.proofs.Math.Option.{some};
 ghost use Rattle.std.specs.Prelude.{◌≡◌};
 ghost use Rattle.meaning.specs.Lookup.{type_at};

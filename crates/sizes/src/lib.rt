@@ -1,4 +1,6 @@
 // The field references in expressions and types, constant expressions, and the sizes of primitives.
+#![tactic(auto)]
+
 ghost use Rattle.std.specs.Prelude.{◌≡◌, ◌+◌, ◌≤◌, ◌<◌, length};
 ghost use Rattle.meaning.specs.Kinds.{OfExpr, OfType, Primitive, form_of};
 ghost use Rattle.meaning.specs.Limits.{size_limit};
@@ -19,7 +21,7 @@ ghost use Rattle.sizes.specs.Scan.{next_at, names_in, names_of, path_at, referen
 use bundle::{Count, ExprForm, Form, Step, TypeForm};
 
 // The position of a field reference.
-#[derive(Drop)]
+#[derive(Clone, Copy)]
 pub enum Found {
     At(usize),
     Nothing,
@@ -77,7 +79,7 @@ fn next_at(s: &[u8], at: usize, form: Form) -> usize
 }
 
 // The count of names of a field reference.
-#[derive(Drop)]
+#[derive(Clone, Copy)]
 pub enum Names {
     Of(usize),
     No,
@@ -161,7 +163,7 @@ pub fn path_length(s: &[u8], at: usize) -> usize
 }
 
 // What a field reference means: a type's name, and the count and position of the names of the field part.
-#[derive(Drop)]
+#[derive(Clone, Copy)]
 pub struct Target {
     pub name: u16,
     pub count: usize,
@@ -201,7 +203,7 @@ pub fn get_primitive_size(kind: u8) -> u8
 }
 
 // The bytes of a primitive; other types have no size of their own.
-#[derive(Drop)]
+#[derive(Clone, Copy)]
 pub enum Size {
     Bytes(u8),
     Other,

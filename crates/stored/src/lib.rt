@@ -1,4 +1,6 @@
 // Stored answers: whether an answer is the one in a list of bytes, or in its first m.
+#![tactic(auto)]
+
 ghost use Rattle.std.specs.Prelude.{◌≡◌, ◌≤◌, length, take};
 ghost use Rattle.stored.specs.Examples.{Examples};
 ghost use Rattle.stored.specs.Stored.{Whether, BytesAt, Due, Same, number_bytes, numbers_bytes, layout_bytes, chain_bytes, bits_of, refusal_bytes, IsDue};

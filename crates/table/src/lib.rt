@@ -1,6 +1,8 @@
 // A table of distinct numbers, each with its place by order of entry, in a slice from `base` on: so many heads, one for each bucket, then
 // for each member the member itself and a link. A head, and a link, is one more than the place of the last member of the bucket, or of the last
 // before this one; 0 ends the bucket. Numbers of 16 bits in b buckets: a bucket has at most 65,536 / b members, rounded up.
+#![tactic(auto)]
+
 ghost use Rattle.std.specs.Prelude.{◌+◌, ◌*◌, ◌%◌, ◌≤◌, ◌<◌, ◌≡◌, length};
 ghost use Rattle.table.specs.Table.{put, Within, Filled, Members, PlaceOf, Entered};
 

@@ -1,11 +1,13 @@
 // A tree of distinct numbers of 16 bits, each with its place by order of entry, in a slice from `base` on: for each the number itself and
 // two links, one more than the place to which they lead, or 0. The search for a number goes by its bits, the lowest first, so that it takes
 // 17 steps at most whatever the numbers are.
+#![tactic(auto)]
+
 ghost use Rattle.std.specs.Prelude.{◌+◌, ◌*◌, ◌≤◌, ◌<◌, length};
 ghost use Rattle.tree.specs.Tree.{Tree, EndOf, PlaceOf, Entered, Node};
 
 // Where a search ends: at a number, or at a link that leads nowhere.
-#[derive(Drop)]
+#[derive(Clone, Copy)]
 pub enum End {
     At(usize),
     Link(usize),

@@ -1,4 +1,6 @@
 // The references of one definition, gone through one by one, and the record of a violation written.
+#![tactic(auto)]
+
 ghost use Rattle.std.specs.Prelude.{◌≡◌, false, [], ℕ, ◌+◌, ◌*◌, ◌≤◌, ◌<◌, length, get_or};
 ghost use Rattle.meaning.specs.Limits.{definition_limit};
 ghost use Rattle.meaning.specs.Lists.{push};
@@ -22,14 +24,14 @@ use cycles::Asked;
 use violation::{Path, Record};
 
 // How far a report is written: the place behind it, and the count of its violations.
-#[derive(Drop)]
+#[derive(Clone, Copy)]
 pub struct Position {
     pub at: usize,
     pub count: usize,
 }
 
 // A definition: its number, its name, and where its type starts.
-#[derive(Drop)]
+#[derive(Clone, Copy)]
 pub struct Subject {
     pub number: usize,
     pub name: u16,
@@ -37,7 +39,7 @@ pub struct Subject {
 }
 
 // The references of a definition, in the records from `at` to `end`: those of an enum's tag, or of an array's size where `tag` is not set.
-#[derive(Drop)]
+#[derive(Clone, Copy)]
 pub struct References {
     pub tag: bool,
     pub at: usize,

@@ -1,4 +1,6 @@
 // The three validators.
+#![tactic(auto)]
+
 ghost use Rattle.std.specs.Prelude.{true, false, ◌+◌, ◌*◌, ◌≤◌, ◌<◌, length, get_or};
 ghost use Rattle.bundle.specs.Opened.{LayoutOf};
 ghost use Rattle.sizes.specs.Tests.{Acyclic, Kept};

@@ -1,4 +1,6 @@
 // The call for the value of a size, with demand 1 as its contract: a demand that is not proved fails this crate.
+#![tactic(auto)]
+
 ghost use Rattle.value_demand.specs.Demand.{ValueDemand};
 
 use values::Valued;

@@ -1,11 +1,13 @@
 // The arithmetic of size expressions: exact whole numbers within signed 64 bits. A result is tested before it is made.
+#![tactic(auto)]
+
 ghost use Rattle.std.specs.Prelude.{◌≡◌, ◌≤◌, ◌<◌, pos, negsuc, nat_abs, ◌+ℤ◌, ◌-ℤ◌, ◌*ℤ◌};
 ghost use Rattle.std.specs.Int.Signed.{le_z, quot_z, rem_z};
 ghost use Rattle.fixed_meaning.specs.Value.{valued, ranged, signed_limit, complement, literal_value, truth, divided, operations, operation_of, operated};
 ghost use Rattle.values.specs.Meant.{value_meant, furthest, covers};
 
 // A value, or the number of the refusal that is met first.
-#[derive(Drop)]
+#[derive(Clone, Copy)]
 pub enum Valued {
     Is(i64),
     Refused(u8),

@@ -1,4 +1,6 @@
 // Writes the record that a report has for a violation. Bytes for which the lent buffer has no place are counted and not written.
+#![tactic(auto)]
+
 ghost use Rattle.std.specs.Prelude.{◌≡◌, List, [], ◌∷◌, ℕ, ◌+◌, ◌*◌, ◌≤◌, ◌<◌, length, take};
 ghost use Rattle.names.specs.Documents.{bytes};
 ghost use Rattle.meaning.specs.Report.{two_bytes, chain_items, violation_items};
@@ -6,7 +8,7 @@ ghost use Rattle.meaning.specs.Violations.{violation};
 ghost use Rattle.violation.specs.Records.{Puts, farthest, longest, path_bytes, padded};
 
 // A path of at most four names; unused ones are 0.
-#[derive(Drop)]
+#[derive(Clone, Copy)]
 pub struct Path {
     pub count: u8,
     pub first: u16,
@@ -16,7 +18,7 @@ pub struct Path {
 }
 
 // What a violation's record says beside the definition: the type, 1 to 8, the path and the length of the chain.
-#[derive(Drop)]
+#[derive(Clone, Copy)]
 pub struct Record {
     pub kind: u8,
     pub path: Path,

@@ -1,4 +1,6 @@
 // What the program's arguments ask for, and what the program makes of what is read and written.
+#![tactic(auto)]
+
 ghost use Rattle.std.specs.Prelude.{List, [], ◌∷◌, ℕ, ◌≡◌};
 ghost use Rattle.decimal.specs.Parsing.{IsParsed};
 ghost use Rattle.words.specs.Running.{reads_bundle, turn_of, message_of};
@@ -7,7 +9,7 @@ ghost use Rattle.words.specs.Words.{IsWord, Asks, AsksOnly, words_of};
 use decimal::Parsed;
 
 // A first word.
-#[derive(Drop)]
+#[derive(Clone, Copy)]
 enum Word {
     Renumber,
     Chain,
@@ -19,7 +21,7 @@ enum Word {
 }
 
 // What is asked for.
-#[derive(Drop)]
+#[derive(Clone, Copy)]
 pub enum Order {
     Report,
     Renumber,
@@ -132,14 +134,14 @@ pub fn order_of(count: usize, first: &[u8], second: &[u8], third: &[u8]) -> Orde
 }
 
 // What reading came to.
-#[derive(Drop)]
+#[derive(Clone, Copy)]
 pub enum Input {
     Bytes(usize),
     Failed,
 }
 
 // What one read says.
-#[derive(Drop)]
+#[derive(Clone, Copy)]
 pub enum Turn {
     More(usize),
     End,
@@ -147,7 +149,7 @@ pub enum Turn {
 }
 
 // What is said on standard error.
-#[derive(Drop)]
+#[derive(Clone, Copy)]
 pub enum Message {
     Nothing,
     Arguments,

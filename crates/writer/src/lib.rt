@@ -1,4 +1,6 @@
 // Writes the records of a bundle one by one into a lent buffer.
+#![tactic(auto)]
+
 ghost use Rattle.std.specs.Prelude.{◌≡◌, ◌∷◌, [], ◌+◌, ◌-◌, ◌≤◌, length, replicate, T};
 ghost use Rattle.std.proofs.Math.Option.{some};
 ghost use Rattle.std.proofs.lemmas.List.Edits.{sets};
@@ -21,7 +23,7 @@ const DEFINITION_LIMIT: u64 = bundle::DEFINITION_LIMIT as u64;
 const EDGE_LIMIT: u64 = bundle::EDGE_LIMIT as u64;
 
 // A part of a record's body: its bytes, its largest value, and the refusal of a larger one. A part that is not there has no bytes.
-#[derive(Drop)]
+#[derive(Clone, Copy)]
 pub struct Part {
     pub width: u8,
     pub most: u64,
@@ -29,7 +31,7 @@ pub struct Part {
 }
 
 // The parts of a record's body, at most four.
-#[derive(Drop)]
+#[derive(Clone, Copy)]
 pub struct Shape {
     pub first: Part,
     pub second: Part,
@@ -38,7 +40,7 @@ pub struct Shape {
 }
 
 // What a kind byte says of its body.
-#[derive(Drop)]
+#[derive(Clone, Copy)]
 pub enum Shaped {
     Body(Shape),
     None,

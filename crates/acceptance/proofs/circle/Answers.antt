@@ -1,0 +1,21 @@
+-- `acceptance::circle` meets its contract. The invariant: the definitions passed are walked.
+use native.Mathlib.Omega.{arith}
+use Prim.Native.Nat.{◌-◌}
+use Rattle.bundle.specs.Definitions.{bundle_of}
+use Rattle.acceptance.proofs.CircleLaws.{loop_circles, decided_true, decided_loop, Settled, settled_start, settled_marks, settled_next, settled_end}
+use Rattle.acceptance.proofs.circle.Goals as goal
+
+pub loop-i-init : goal.loop-i-init
+loop-i-init c = settled_start _
+
+pub walk_definition-requires : goal.walk_definition-requires
+walk_definition-requires c = (c.requires, c.loop-i-test.true, settled_marks c.loop-i.invariant)
+
+pub loop-i-preserved : goal.loop-i-preserved
+loop-i-preserved c = settled_next c.loop-i.invariant (decided_true c.walk_definition.ensures c.if-walk_definition.true)
+
+pub returns-else-walk_definition : goal.returns-else-walk_definition
+returns-else-walk_definition c = loop_circles (decided_loop c.walk_definition.ensures c.if-walk_definition.false).1
+
+pub returns : goal.returns
+returns c = settled_end c.loop-i.invariant (omega (arith, c.requires.count))

@@ -1,0 +1,114 @@
+-- `bundle::form_of` meets its contract: each arm is a row of the table, or lies between two rows.
+use native.Mathlib.Omega.{arith}
+use mathlib.Core.Logic.{⊎_elim}
+use mathlib.Core.Path.{sym}
+use lib.Dec.{lit<}
+use Rattle.meaning.specs.Kinds.{kinds}
+use Rattle.bundle.specs.View.{expr_form_meant, type_form_meant, form_meant}
+use Rattle.meaning.proofs.KindTable.{hit, gap, below, above, side}
+use Rattle.bundle.proofs.Widths.{index_below, index_fits}
+use Rattle.bundle.proofs.form_of.Goals as goal
+
+pub overflow_cast-result : goal.overflow_cast-result
+overflow_cast-result c = index_fits (omega arith)
+
+pub returns-in-64 : goal.returns-in-64
+unfolding form_meant type_form_meant
+returns-in-64 c = sym (hit kinds 1 7 _ tt (lit< tt) (omega arith) (omega arith))
+
+pub returns-in-65 : goal.returns-in-65
+unfolding form_meant type_form_meant
+returns-in-65 c = sym (hit kinds 1 8 _ tt (lit< tt) (omega arith) (omega arith))
+
+pub returns-in-66 : goal.returns-in-66
+unfolding form_meant type_form_meant
+returns-in-66 c = sym (hit kinds 1 9 _ tt (lit< tt) (omega arith) (omega arith))
+
+pub returns-in-67 : goal.returns-in-67
+unfolding form_meant type_form_meant
+returns-in-67 c = sym (hit kinds 1 10 _ tt (lit< tt) (omega arith) (omega arith))
+
+pub returns-in-68 : goal.returns-in-68
+unfolding form_meant type_form_meant
+returns-in-68 c = sym (hit kinds 1 11 _ tt (lit< tt) (omega arith) (omega arith))
+
+pub returns-in-69 : goal.returns-in-69
+unfolding form_meant type_form_meant
+returns-in-69 c = sym (hit kinds 1 12 _ tt (lit< tt) (omega arith) (omega arith))
+
+pub returns-in-1-to-8 : goal.returns-in-1-to-8
+unfolding form_meant expr_form_meant
+returns-in-1-to-8 c = sym (hit kinds 1 0 _ tt (lit< tt) (omega arith) (omega arith))
+
+pub returns-in-9-to-12 : goal.returns-in-9-to-12
+unfolding form_meant expr_form_meant
+returns-in-9-to-12 c = sym (hit kinds 1 1 _ tt (lit< tt) (omega arith) (omega arith))
+
+pub returns-then-kind-eq13 : goal.returns-then-kind-eq13
+unfolding form_meant expr_form_meant
+returns-then-kind-eq13 c = sym (hit kinds 1 2 _ tt (lit< tt) (omega arith) (omega arith))
+
+pub returns-else-kind-eq13 : goal.returns-else-kind-eq13
+unfolding form_meant expr_form_meant
+returns-else-kind-eq13 c = sym (hit kinds 1 3 _ tt (lit< tt) (above c.in-13-to-14.if-kind-lt13-own.false c.if-kind-eq13.false) (omega arith))
+
+pub returns-in-16-to-35 : goal.returns-in-16-to-35
+unfolding form_meant expr_form_meant
+returns-in-16-to-35 c = sym (hit kinds 1 4 _ tt (lit< tt) (omega arith) (omega arith))
+
+pub returns-in-36-to-39 : goal.returns-in-36-to-39
+unfolding form_meant expr_form_meant
+returns-in-36-to-39 c = sym (hit kinds 1 5 _ tt (lit< tt) (omega arith) (omega arith))
+
+pub returns-in-48-to-59 : goal.returns-in-48-to-59
+unfolding form_meant type_form_meant
+returns-in-48-to-59 c = sym (hit kinds 1 6 _ tt (lit< tt) (omega arith) (omega arith))
+
+pub returns-in-80-to-81 : goal.returns-in-80-to-81
+unfolding form_meant
+returns-in-80-to-81 c = sym (hit kinds 1 13 _ tt (lit< tt) (omega arith) (omega arith))
+
+pub returns-in-82-to-83 : goal.returns-in-82-to-83
+unfolding form_meant
+returns-in-82-to-83 c = sym (hit kinds 1 14 _ tt (lit< tt) (omega arith) (omega arith))
+
+pub returns-then-kind-eq96 : goal.returns-then-kind-eq96
+unfolding form_meant
+returns-then-kind-eq96 c = sym (hit kinds 1 15 _ tt (lit< tt) (omega arith) (omega arith))
+
+pub returns-then-kind-eq97 : goal.returns-then-kind-eq97
+unfolding form_meant
+returns-then-kind-eq97 c = sym (hit kinds 1 16 _ tt (lit< tt) (omega arith) (omega arith))
+
+pub returns-else-kind-eq97 : goal.returns-else-kind-eq97
+unfolding form_meant
+returns-else-kind-eq97 c = sym (hit kinds 1 17 _ tt (lit< tt) (above (above c.in-96-to-98.if-kind-lt96-own.false c.if-kind-eq96.false) c.if-kind-eq97.false) (omega arith))
+
+pub returns-in_default : goal.returns-in_default
+unfolding form_meant
+returns-in_default c = sym (below kinds 1 _ tt (omega arith))
+
+pub returns-in_default-2 : goal.returns-in_default-2
+unfolding form_meant
+returns-in_default-2 c = sym (gap kinds 1 3 16 _ tt (lit< tt) tt (omega arith) (omega arith))
+
+pub returns-in_default-3 : goal.returns-in_default-3
+unfolding form_meant
+returns-in_default-3 c = sym (gap kinds 1 5 48 _ tt (lit< tt) tt (omega arith) (omega arith))
+
+pub returns-in_default-4 : goal.returns-in_default-4
+unfolding form_meant
+returns-in_default-4 c =
+    sym (⊎_elim (λ p. gap kinds 1 6 64 _ tt (lit< tt) tt (omega arith) p)
+    (λ p. gap kinds 1 12 80 _ tt (lit< tt) tt (above (above (above (above (above (above p c.in_default.in_default-own.rest.0.0.0.0.0.1) c.in_default.in_default-own.rest.0.0.0.0.1) c.in_default.in_default-own.rest.0.0.0.1) c.in_default.in_default-own.rest.0.0.1) c.in_default.in_default-own.rest.0.1) c.in_default.in_default-own.rest.1) (omega arith)) (side _ 0x40))
+
+pub returns-in_default-5 : goal.returns-in_default-5
+unfolding form_meant
+returns-in_default-5 c = sym (gap kinds 1 14 96 _ tt (lit< tt) tt (omega arith) (omega arith))
+
+pub returns-in_default-6 : goal.returns-in_default-6
+unfolding form_meant
+returns-in_default-6 c = sym (gap kinds 1 17 256 _ tt (lit< tt) tt (omega arith) (omega arith))
+
+pub bounds-kind : goal.bounds-kind
+bounds-kind c = index_below (omega arith)
