@@ -1,10 +1,10 @@
 #!/bin/sh
 # Runs the program with each of its words, as samples/words.txt says, with input and output that fail and at the limits, and compares
 # what it writes and what it leaves unread.
-# Usage: samples/words.sh [PROGRAM]        (`rt check layout` makes target/bin/layout)
+# Usage: samples/words.sh [PROGRAM]        (`rt ci`, or `rt run` in crates/layout, makes crates/layout/out/layout)
 set -eu
 cd "$(dirname "$0")/.."
-program=${1:-target/bin/layout}
+program=${1:-crates/layout/out/layout}
 work=$(mktemp -d)
 trap 'rm -rf "$work"' EXIT
 echo 'layout: wrong arguments; take none, renumber, chain FROM TO, followed FROM TO, size NUMBER, value NUMBER (each 0 to 65535) or help' > "$work/wrong"

@@ -9,15 +9,15 @@ root=$(cd "$here/../.." && pwd)
 folder=${1:-../shared/docs/src}
 sources=$(cd "$root" && cd "$folder" && pwd)
 target=$here/target
-linked=$target/original
-mkdir -p "$linked"
+copied=$target/original
+rm -rf "$copied"
+mkdir -p "$copied"
 
-# The original files are compiled through links: no byte of them is changed and
-# none is kept here. The file that dependency.rs names as its tests is ours.
-ln -sf "$sources/rpc/abi/abi_gen/src/dependency.rs" "$linked/dependency.rs"
-ln -sf "$sources/rpc/abi/abi_types/src/types.rs" "$linked/types.rs"
-ln -sf "$sources/rpc/abi/abi_types/src/expr.rs" "$linked/expr.rs"
-ln -sf "$here/src/dependency_tests.rs" "$linked/dependency_tests.rs"
+# The original files are compiled as copies: no byte of them is changed and none is
+# kept in the repository. (`rt ci` takes no links.) The file that dependency.rs names
+# as its tests is ours.
+cp "$sources/rpc/abi/abi_gen/src/dependency.rs" "$sources/rpc/abi/abi_types/src/types.rs" \
+  "$sources/rpc/abi/abi_types/src/expr.rs" "$here/src/dependency_tests.rs" "$copied"
 
 compile() {
   rustc --edition 2021 -C opt-level=2 -C codegen-units=1 -L "$target" \

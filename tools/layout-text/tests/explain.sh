@@ -1,32 +1,42 @@
 #!/bin/sh
 # tools/explain in a copy of the repository's shape, with an rt that only says what it was asked and hands out a library. Run by
-# test.sh, from the root of the repository, after build.sh.
+# test.sh, from the root of the repository, after build.sh. The copy stands outside of it: `rt ci` refuses files of a crate elsewhere.
 set -u
 root=$(pwd)
-work=$root/tools/layout-text/target/explain-test
-rm -rf "$work"
+work=$(mktemp -d)
+work=$(readlink -f -- "$work")
+trap 'rm -rf "$work"' EXIT
 copy=$work/copy
-mkdir -p "$work/bin" "$work/elsewhere" "$copy/tools/layout-text/target" "$copy/bindings/rust" "$copy/crates/meaning/specs"
+mkdir -p "$work/bin" "$work/elsewhere" "$copy/tools/layout-text" "$copy/bindings/rust" "$copy/crates/meaning/specs" "$copy/crates/layout_c"
 cp tools/explain "$copy/tools/explain"
 cp -R tools/layout-text/src "$copy/tools/layout-text/src"
 cp -R bindings/rust/src "$copy/bindings/rust/src"
 cp -R include "$copy"
-printf 'names:   # a line\nmeaning: names\nother: meaning\nlayout_c: meaning   # the calls\n' > "$copy/crates.txt"
+printf 'names:   # a line\nmeaning: names\nother: meaning\nlayout_c staticlib: meaning   # the calls\n' > "$copy/crates.txt"
 echo 'a law' > "$copy/crates/meaning/specs/Law.antt"
 cp samples/winch.layout "$work/elsewhere/set.layout"
 
 # This rt proves nothing: it prints what rt prints, and fails where the file `wrong` is there.
 cat > "$work/bin/rt" <<RT
 #!/bin/sh
-echo "rt \$*" >> "$work/calls"
+echo "rt \$* in \${PWD#"$copy/"}" >> "$work/calls"
 cat > /dev/null
 for name in names meaning; do
-  echo 'a line of the prover'
-  echo "rt: \$name proved (4 s)"
+  mkdir -p ../\$name/out
+  echo "\$\$" > ../\$name/out/kept
+  echo "fn \$name::call: proved"
+  echo 'library core: modules loaded=2 checked=0'
+  echo "crate \$name: modules loaded=3 checked=7"
+  echo 'logic=proved functions=1 sum=12'
 done
-[ ! -e "$work/wrong" ] || { echo 'rt: bundle NOT PROVED (exit 1, 3 s)'; echo 'rt: FAILED: bundle'; exit 1; }
-mkdir -p target/staticlib
-echo 'a library' > target/staticlib/liblayout_c.a
+if [ -e "$work/wrong" ]; then
+  echo 'crate bundle: modules loaded=3 checked=7'
+  echo 'logic=not-proved'
+  echo 'rt: the library bundle did not build, so nothing above it was checked' >&2
+  exit 1
+fi
+mkdir -p out
+echo 'a library' > out/liblayout_c.a
 RT
 # The program is the one that was built before.
 cat > "$copy/tools/layout-text/build.sh" <<BUILD
@@ -60,22 +70,23 @@ says() {
   grep -qF -e "$2" "$work/$1" || { failed=1; echo "failed: not said: $2"; }
 }
 
-library='rt staticlib layout_c;'
-program='build target/staticlib/liblayout_c.a over a library;'
+library='rt lib --cpu x86-64 in crates/layout_c;'
+program='build crates/layout_c/out/liblayout_c.a over a library;'
 after 'help' 0 '' --help
 says out 'Usage: tools/explain'
 after 'the first run' 0 "$library$program"
 says out 'The set passes: 8 definitions'
-says err 'the library: 3 crates, about six minutes'
-says err '  1 of 3: names proved (4 s)'
-says err '  2 of 3: meaning proved (4 s)'
-grep -q 'a line of the prover' "$work/err" && { failed=1; echo 'failed: the prover is too loud'; }
+says err 'the library: 3 crates'
+says err '  1: names proved'
+says err '  2: meaning proved'
+says err 'The library is built.'
+grep -q 'call: proved' "$work/err" && { failed=1; echo 'failed: the prover is too loud'; }
 after 'the second run' 0 ''
 [ ! -s "$work/err" ] || { failed=1; echo 'failed: a run that builds nothing says something'; }
-printf x > "$copy/target/staticlib/liblayout_c.a"
+printf x > "$copy/crates/layout_c/out/liblayout_c.a"
 after 'a library of one byte' 0 "$library"
 says out 'The set passes'
-rm "$copy/target/staticlib/liblayout_c.a"
+rm "$copy/crates/layout_c/out/liblayout_c.a"
 after 'no library' 0 "$library"
 echo 'a law on standard input' > "$copy/crates/meaning/specs/Law.antt"
 echo '//' >> "$copy/include/layout.h"
@@ -101,10 +112,19 @@ printf x > "$copy/tools/layout-text/target/layout-text"
 after 'a program of one byte' 0 "$program"
 after 'all is built' 0 ''
 
+# What rt keeps of a crate is none of its sources.
+echo 'more' > "$copy/crates/meaning/out/kept"
+after 'rt kept something' 0 ''
+mkdir -p "$copy/crates/meaning/specs/out"
+echo 'a law' > "$copy/crates/meaning/specs/out/Law.antt"
+after 'a law in a folder of that name' 0 "$library"
+rm -r "$copy/crates/meaning/specs/out"
+after 'it went' 0 "$library"
+
 # By a symbolic link it works in its own repository, and leaves the folder of the link alone.
-mkdir -p "$work/link/bin" "$work/link/target/staticlib" "$work/link/crates"
+mkdir -p "$work/link/bin" "$work/link/crates/layout_c/out"
 : > "$work/link/crates/file"
-echo 'not ours' > "$work/link/target/staticlib/liblayout_c.a"
+echo 'not ours' > "$work/link/crates/layout_c/out/liblayout_c.a"
 ln -s "$copy/tools/explain" "$work/link/bin/first"
 ln -s first "$work/link/bin/explain"
 script=$work/link/bin/explain
@@ -118,7 +138,7 @@ cp tools/explain "$work/link/tools/explain"
 script=$work/link/tools/explain
 after 'no repository' 3 ''
 says err "$work/link is not the repository: it has no crates.txt"
-grep -q 'not ours' "$work/link/target/staticlib/liblayout_c.a" || { failed=1; echo 'failed: a strange library is gone'; }
+grep -q 'not ours' "$work/link/crates/layout_c/out/liblayout_c.a" || { failed=1; echo 'failed: a strange library is gone'; }
 script=$copy/tools/explain
 
 # Names of files that a shell would take apart.
@@ -135,13 +155,13 @@ after 'it went' 0 "$library"
 mv "$copy/crates" "$copy/away"
 after 'no sources' 3 ''
 says err 'the checksums cannot be taken of: crates crates.txt'
-[ -f "$copy/target/staticlib/liblayout_c.a" ] || { failed=1; echo 'failed: the library is gone'; }
+[ -f "$copy/away/layout_c/out/liblayout_c.a" ] || { failed=1; echo 'failed: the library is gone'; }
 mv "$copy/away" "$copy/crates"
 printf '#!/bin/sh\nexit 1\n' > "$work/bin/cksum"
 chmod +x "$work/bin/cksum"
 after 'no cksum' 3 ''
 says err 'the checksums cannot be taken'
-[ -f "$copy/target/staticlib/liblayout_c.a" ] || { failed=1; echo 'failed: the library is gone'; }
+[ -f "$copy/crates/layout_c/out/liblayout_c.a" ] || { failed=1; echo 'failed: the library is gone'; }
 rm "$work/bin/cksum"
 after 'all is there again' 0 ''
 
@@ -149,9 +169,9 @@ after 'all is there again' 0 ''
 echo 'a wrong law' > "$copy/crates/meaning/specs/Law.antt"
 : > "$work/wrong"
 after 'a law that is not proved' 3 "$library"
-says err 'bundle NOT PROVED (exit 1, 3 s)'
+says err 'bundle NOT PROVED'
 says err 'the library was not built (status 1)'
-says err 'rt: FAILED: bundle'
+says err 'rt: the library bundle did not build'
 [ ! -s "$work/out" ] || { failed=1; echo 'failed: an answer without a library'; }
 after 'once more' 3 "$library"
 rm "$work/wrong"

@@ -1,7 +1,7 @@
 //! The original layout validators behind the bytes of a bundle, a second
 //! reading of the paper to compare them with, and a source of inputs.
 
-// Links made by build.sh; most of the original is not called here.
+// Copies made by build.sh; most of the original is not called here.
 #[rustfmt::skip]
 #[allow(dead_code, clippy::all)]
 #[path = "../target/original/dependency.rs"]
