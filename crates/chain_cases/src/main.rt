@@ -8,6 +8,7 @@
 ghost use Rattle.std.specs.Prelude.{◌+◌, ◌*◌, ◌≤◌, length};
 
 use search_from::Listing;
+use std::io;
 
 // Writes a number of two bytes, low byte first.
 fn put(s: &mut [u8], at: usize, x: u16)
@@ -52,9 +53,8 @@ fn path(s: &mut [u8], count: usize, apart: u16)
     }
 }
 
-fn number(x: u64) {
-    io::print_decimal(1, x);
-    io::write_all(1, b" ");
+fn number(rt: &impl Print, x: u64) -> io::Result<()> {
+    print!(rt; "{x} ")
 }
 
 // The name at a place, or 0 behind the end.
@@ -63,62 +63,77 @@ fn name_at(list: &[u16], i: usize) -> u16 {
 }
 
 // Writes an answer, and the list that it left.
-fn tell(answer: Listing, list: &[u16]) {
+fn tell(rt: &impl Print, answer: Listing, list: &[u16]) -> io::Result<()> {
     match answer {
         Listing::Listed(n, followed) => {
-            number(n as u64);
-            number(followed as u64);
-            number(name_at(list, 0) as u64);
+            number(rt, n as u64)?;
+            number(rt, followed as u64)?;
+            number(rt, name_at(list, 0) as u64)?;
             if n != 0 {
-                number(name_at(list, n - 1) as u64);
+                number(rt, name_at(list, n - 1) as u64)?;
             }
-            number(name_at(list, n) as u64);
+            number(rt, name_at(list, n) as u64)?;
         }
         Listing::Refused(k) => {
-            io::write_all(1, b"refused ");
-            number(k as u64);
-            number(name_at(list, 0) as u64);
+            print!(rt; "refused ")?;
+            number(rt, k as u64)?;
+            number(rt, name_at(list, 0) as u64)?;
         }
     }
-    io::write_all(1, b"\n");
+    println!(rt)
 }
 
 // Looks for the chain in the bundle that the first `end` bytes are, with the first `size` places lent.
-fn look(s: &[u8], end: usize, from: u16, to: u16, list: &mut [u16], size: usize)
+fn look(
+    rt: &impl Print,
+    s: &[u8],
+    end: usize,
+    from: u16,
+    to: u16,
+    list: &mut [u16],
+    size: usize,
+) -> io::Result<()>
     requires { (end ≤ length s.now) × (size ≤ length list.old) }
 {
     let answer = find_chain::find_layout_dependency_chain(&s[..end], from, to, &mut list[..size]);
-    tell(answer, list);
+    tell(rt, answer, list)
 }
 
 // Looks for the chain on a path, with so many places lent, each of which holds 7.
-fn on_path(count: usize, apart: u16, from: u16, to: u16, size: usize)
+fn on_path(
+    rt: &impl Print,
+    count: usize,
+    apart: u16,
+    from: u16,
+    to: u16,
+    size: usize,
+) -> io::Result<()>
     requires { (count ≤ 1024) × (size ≤ 1026) }
 {
-    number(count as u64);
-    number(apart as u64);
-    number(from as u64);
-    number(to as u64);
-    number(size as u64);
+    number(rt, count as u64)?;
+    number(rt, apart as u64)?;
+    number(rt, from as u64)?;
+    number(rt, to as u64)?;
+    number(rt, size as u64)?;
     let mut s = [0u8; 6151];
     path(&mut s, count, apart);
     let mut list = [7u16; 1026];
-    look(&s, 7 + 6 * count, from, to, &mut list, size);
+    look(rt, &s, 7 + 6 * count, from, to, &mut list, size)
 }
 
-fn main() {
-    on_path(1024, 1, 0, 1024, 1026);
-    on_path(1024, 1, 0, 1024, 1025);
-    on_path(1024, 1, 0, 1024, 1024);
-    on_path(1024, 63, 0, 64512, 1025);
-    on_path(1024, 1, 1, 0, 1025);
-    on_path(255, 256, 0, 65280, 256);
-    on_path(255, 256, 256, 65280, 254);
-    on_path(63, 1024, 0, 64512, 64);
-    on_path(63, 1024, 0, 64512, 63);
-    on_path(65, 1000, 0, 65000, 66);
-    on_path(3, 5, 0, 4, 4);
-    on_path(3, 5, 9, 9, 1);
-    on_path(3, 5, 9, 9, 0);
-    on_path(0, 0, 1, 2, 0);
+fn main(rt: HostRuntime) -> io::Result<()> {
+    on_path(&rt, 1024, 1, 0, 1024, 1026)?;
+    on_path(&rt, 1024, 1, 0, 1024, 1025)?;
+    on_path(&rt, 1024, 1, 0, 1024, 1024)?;
+    on_path(&rt, 1024, 63, 0, 64512, 1025)?;
+    on_path(&rt, 1024, 1, 1, 0, 1025)?;
+    on_path(&rt, 255, 256, 0, 65280, 256)?;
+    on_path(&rt, 255, 256, 256, 65280, 254)?;
+    on_path(&rt, 63, 1024, 0, 64512, 64)?;
+    on_path(&rt, 63, 1024, 0, 64512, 63)?;
+    on_path(&rt, 65, 1000, 0, 65000, 66)?;
+    on_path(&rt, 3, 5, 0, 4, 4)?;
+    on_path(&rt, 3, 5, 9, 9, 1)?;
+    on_path(&rt, 3, 5, 9, 9, 0)?;
+    on_path(&rt, 0, 0, 1, 2, 0)
 }

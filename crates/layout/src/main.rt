@@ -3,11 +3,18 @@
 // refused bundle 7E and the number of its refusal. Messages go to standard error, as when one of the two fails.
 #![tactic(auto)]
 
-ghost use Rattle.std.specs.Prelude.{◌≡◌, ◌≤◌, length};
-ghost use Rattle.layout.specs.Reading.{TurnWithin, ReadInto};
-ghost use Rattle.responses.specs.Response.{Holds};
+ghost use Rattle.std.specs.Prelude.{◌≡◌, ◌≢◌, ◌≤◌, ◌<◌, ◌^◌, false, [], length, take, drop, IfOk, IfSome, IsTrue};
+ghost use Rattle.std.specs.Io.KnownBytes.{Appends};
+ghost use Rattle.layout.specs.Reading.{number_of, TurnWithin, TurnReads, ReadInto, ReadAll, ReadFor};
+ghost use Rattle.responses.specs.Response.{Holds, answer_to};
 ghost use Rattle.layout.specs.Response.{output_of};
+ghost use Rattle.words.specs.Running.{reads_bundle};
+ghost use Rattle.words.specs.declared.Message.TheVariants.{Nothing, Arguments, Unread};
+ghost use Rattle.words.specs.declared.Order.TheVariants.{Help, Wrong};
 
+use std::env::{Env, FillError};
+use std::io;
+use std::io::{Read, Write};
 use words::{Input, Message, Order, Turn};
 
 // Room for the longest bundle and one byte more.
@@ -17,33 +24,76 @@ fn input_buffer() -> [u8; bundle::BYTE_LIMIT + 1]
     [0; bundle::BYTE_LIMIT + 1]
 }
 
-// What the program's arguments ask for. One of more than 4,096 bytes counts as empty.
-fn asked() -> Order {
-    let mut first = io::buffer();
-    let mut second = io::buffer();
-    let mut third = io::buffer();
-    let a = os::arg(1, &mut first);
-    let b = os::arg(2, &mut second);
-    let c = os::arg(3, &mut third);
-    words::order_of(os::arg_count(), &first[..a], &second[..b], &third[..c])
-}
-
-// One read of standard input into the places from `done` on.
-fn read_more(buf: &mut [u8], done: usize) -> Turn
-    requires { done ≤ length buf.old }
-    ensures { TurnWithin result done (length buf.old) }
+// An argument of at most as many bytes as there are places; how many bytes it has. One that is longer or missing counts as empty.
+fn argument(rt: &impl Env, i: usize, buf: &mut [u8]) -> usize
+    ensures { result ≤ length buf.new }
 {
-    let got = libc::read(libc::STDIN_FILENO, &mut buf[done..]);
-    words::turn_of(got)
+    match rt.arg(i, buf) {
+        Ok(n) => n,
+        Err(_) => 0,
+    }
 }
 
-// Reads standard input until the places are full or the input ends.
-fn read_input(buf: &mut [u8]) -> Input
-    ensures { ReadInto result buf.new }
+// Whether there is an argument with this number.
+fn is_given(rt: &impl Env, i: usize) -> bool {
+    let mut places = [0u8; 1];
+    match rt.arg(i, &mut places) {
+        Ok(_) | Err(FillError::TooLong) => true,
+        Err(FillError::NotPresent) => false,
+    }
+}
+
+// How many arguments there are, the program's own name among them: 5 stands for more too.
+fn argument_count(rt: &impl Env) -> usize {
+    for i in 1..5 {
+        if !is_given(rt, i) {
+            return i;
+        }
+    }
+    5
+}
+
+// What the program's arguments ask for. One of more than 4,096 bytes counts as empty.
+fn asked(rt: &impl Env) -> Order {
+    let mut first = [0u8; 4096];
+    let mut second = [0u8; 4096];
+    let mut third = [0u8; 4096];
+    let a = argument(rt, 1, &mut first);
+    let b = argument(rt, 2, &mut second);
+    let c = argument(rt, 3, &mut third);
+    words::order_of(argument_count(rt), &first[..a], &second[..b], &third[..c])
+}
+
+// What a read says as one number: how many bytes it gave, or -1 where it failed.
+fn number_of(got: io::Result<usize>) -> isize
+    requires { IfOk got (λ n. n < 2 ^ 63) }
+    ensures { result ≡ number_of got }
+{
+    match got {
+        Ok(n) => n as isize,
+        Err(_) => -1,
+    }
+}
+
+// One read of the input into the places from `done` on.
+fn read_more<R: Read>(input: &mut R, buf: &mut [u8], done: usize) -> Turn
+    requires { done ≤ length buf.old }
+    ensures within { TurnWithin result done (length buf.old) }
+    ensures front { take done buf.new ≡ take done buf.old }
+    ensures reads { TurnReads result (drop done buf.new) (R.remaining input.old) (R.remaining input.new) }
+{
+    let got = input.read(&mut buf[done..]);
+    words::turn_of(number_of(got))
+}
+
+// Reads the input until the places are full or it ends.
+fn read_input<R: Read>(input: &mut R, buf: &mut [u8]) -> Input
+    ensures into { ReadInto result buf.new }
+    ensures all { ReadAll result buf.new (R.remaining input.old) (R.remaining input.new) }
 {
     let mut done = 0;
     while done < buf.len() {
-        let turn = read_more(buf, done);
+        let turn = read_more(input, buf, done);
         match turn {
             Turn::More(n) => done += n,
             Turn::End => return Input::Bytes(done),
@@ -54,11 +104,13 @@ fn read_input(buf: &mut [u8]) -> Input
 }
 
 // Reads what an order is for: a bundle, or nothing.
-fn read_for(order: Order, buf: &mut [u8]) -> Input
-    ensures { ReadInto result buf.new }
+fn read_for<R: Read>(input: &mut R, order: Order, buf: &mut [u8]) -> Input
+    ensures into { ReadInto result buf.new }
+    ensures reads { ReadFor (reads_bundle order) result buf.new (R.remaining input.old) (R.remaining input.new) }
+    ensures unread { reads_bundle order ≡ false → input.new ≡ input.old }
 {
     if words::reads_bundle(order) {
-        return read_input(buf);
+        return read_input(input, buf);
     }
     Input::Bytes(0)
 }
@@ -76,11 +128,14 @@ fn output(order: Order, read: Input, input: &[u8], out: &mut [u8]) -> usize
 }
 
 // Writes the answer, or the text of help. Returns whether all of it was written.
-fn write(order: Order, answer: &[u8]) -> bool {
+fn write<W: Write>(to: &mut W, order: Order, answer: &[u8]) -> bool
+    ensures all { order ≢ Help → IsTrue result → Appends (W.contents to.old) (W.contents to.new) answer.now }
+    ensures none { order ≢ Help → answer.now ≡ [] → to.new ≡ to.old }
+{
     if let Order::Help = order {
-        return io::write_all(
-            libc::STDOUT_FILENO,
-            b"layout checks a bundle of definitions, read from standard input.\n  \
+        return to
+            .write_all(
+                b"layout checks a bundle of definitions, read from standard input.\n  \
               layout                   its report\n  \
               layout renumber          the bundle with its names renumbered\n  \
               layout chain FROM TO     the names on the chain, one to a line\n  \
@@ -90,40 +145,44 @@ fn write(order: Order, answer: &[u8]) -> bool {
               layout help              this text, as with --help or -h\n\
               NUMBER, FROM and TO are decimal numbers from 0 to 65535.\n\
               A bundle that is refused gets two bytes: 7E and the number.\n",
-        );
+            )
+            .is_ok();
     }
-    io::write_all(libc::STDOUT_FILENO, answer)
+    if answer.is_empty() {
+        return true;
+    }
+    to.write_all(answer).is_ok()
 }
 
 // Reads, answers and writes. Returns what is to be said on standard error.
-fn run(order: Order) -> Message {
-    let mut input = input_buffer();
-    let read = read_for(order, &mut input);
+fn run<R: Read, W: Write>(input: &mut R, to: &mut W, order: Order) -> Message
+    ensures answered { result ≡ Nothing → order ≢ Help → IfSome (R.remaining input.old) (λ bytes. Appends (W.contents to.old) (W.contents to.new) (answer_to order bytes)) }
+    ensures unread { result ≡ Unread → to.new ≡ to.old }
+    ensures arguments { result ≡ Arguments → order ≡ Wrong }
+    ensures wrong { order ≡ Wrong → (result ≡ Arguments) × (input.new ≡ input.old) × (to.new ≡ to.old) }
+{
+    let mut places = input_buffer();
+    let read = read_for(input, order, &mut places);
     let mut out = [0; responses::ROOM];
-    let size = output(order, read, &input, &mut out);
-    let written = write(order, &out[..size]);
+    let size = output(order, read, &places, &mut out);
+    let written = write(to, order, &out[..size]);
     words::message_of(order, read, written)
 }
 
-fn say(message: Message) {
-    let err = libc::STDERR_FILENO;
-    match message {
-        Message::Nothing => {}
-        Message::Arguments => {
-            io::write_all(
-                err,
-                b"layout: wrong arguments; take none, renumber, chain FROM TO, followed FROM TO, size NUMBER, value NUMBER (each 0 to 65535) or help\n",
-            );
-        }
-        Message::Unread => {
-            io::write_all(err, b"layout: standard input cannot be read\n");
-        }
-        Message::Unwritten => {
-            io::write_all(err, b"layout: standard output cannot be written\n");
-        }
-    }
+// Says it on standard error. Where that cannot be written, nothing is said.
+fn say(rt: &impl Eprint, message: Message) {
+    let _ = match message {
+        Message::Nothing => Ok(()),
+        Message::Arguments => rt.eprintln(
+            "layout: wrong arguments; take none, renumber, chain FROM TO, followed FROM TO, size NUMBER, value NUMBER (each 0 to 65535) or help",
+        ),
+        Message::Unread => rt.eprintln("layout: standard input cannot be read"),
+        Message::Unwritten => rt.eprintln("layout: standard output cannot be written"),
+    };
 }
 
-fn main() {
-    say(run(asked()));
+fn main(rt: HostRuntime) {
+    let order = asked(&rt);
+    let message = run(&mut rt.stdin(), &mut rt.stdout(), order);
+    say(&rt, message);
 }

@@ -2,42 +2,57 @@
 #![tactic(auto)]
 
 ghost use Rattle.std.specs.Prelude.{◌<◌};
+ghost use Rattle.std.specs.Io.{ReadsAtMost};
 
 use bundle::Answer;
-use libc::{STDIN_FILENO, STDOUT_FILENO};
+use std::io;
+use std::io::Read;
+
+// Reads until buf is full or the input ends, and returns how many bytes it put at the start of buf.
+fn read_full<R: Read>(input: &mut R, buf: &mut [u8]) -> io::Result<usize>
+    ensures { ReadsAtMost result buf.new }
+{
+    let mut done = 0;
+    while done < buf.len() {
+        let n = input.read(&mut buf[done..])?;
+        if n == 0 {
+            break;
+        }
+        done += n;
+    }
+    Ok(done)
+}
 
 // Writes the answer and ends the line.
-fn print(answer: Answer) {
+fn print(rt: &impl Print, answer: Answer) -> io::Result<()> {
     match answer {
-        Answer::Accepted(_) => {
-            io::write_all(STDOUT_FILENO, b"accepted");
-        }
-        Answer::Refused(number) => {
-            io::print_decimal(STDOUT_FILENO, number as u64);
-        }
+        Answer::Accepted(_) => println!(rt; "accepted"),
+        Answer::Refused(number) => println!(rt; "{number}"),
     }
-    io::write_all(STDOUT_FILENO, b"\n");
 }
 
 // Reads n bytes into the first places.
-fn read_first(space: &mut [u8], n: usize) {
+fn read_first<R: Read>(input: &mut R, space: &mut [u8], n: usize) -> io::Result<()> {
     if n <= space.len() {
-        io::read_full(STDIN_FILENO, &mut space[..n]);
+        read_full(input, &mut space[..n])?;
     }
+    Ok(())
 }
 
 // Writes the first n bytes.
-fn write_first(space: &[u8], n: usize) {
+fn write_first(rt: &impl Print, space: &[u8], n: usize) -> io::Result<()> {
     if n <= space.len() {
-        io::write_all(STDOUT_FILENO, &space[..n]);
+        rt.write_all(&space[..n])?;
     }
+    Ok(())
 }
 
 // Runs the bundle in the first n bytes.
-fn run_first(space: &[u8], n: usize) {
+fn run_first(rt: &impl Print, space: &[u8], n: usize) -> io::Result<()> {
     if n <= space.len() {
-        print(acceptance::accept(&space[..n]));
+        print(rt, acceptance::accept(&space[..n]))?;
     }
+    Ok(())
 }
 
 fn wide(byte: u8) -> usize
@@ -47,28 +62,28 @@ fn wide(byte: u8) -> usize
 }
 
 // One case: the length of its label, the length of its bundle in two bytes, the label and the bundle. False where the input ends.
-fn run_case(space: &mut [u8]) -> bool {
+fn run_case<R: Read>(rt: &impl Print, input: &mut R, space: &mut [u8]) -> io::Result<bool> {
     let mut head = [0u8; 3];
-    if io::read_full(STDIN_FILENO, &mut head) < 3 {
-        return false;
+    if read_full(input, &mut head)? < 3 {
+        return Ok(false);
     }
     let label = wide(head[0]);
     let size = wide(head[1]) + 256 * wide(head[2]);
-    read_first(space, label);
-    write_first(space, label);
-    io::write_all(STDOUT_FILENO, b": ");
-    read_first(space, size);
-    run_first(space, size);
-    true
+    read_first(input, space, label)?;
+    write_first(rt, space, label)?;
+    rt.write_all(b": ")?;
+    read_first(input, space, size)?;
+    run_first(rt, space, size)?;
+    Ok(true)
 }
 
-fn main() {
-    let mut space = io::large_buffer();
-    let mut left: usize = 1000;
-    while 0 < left {
-        if !run_case(&mut space) {
-            return;
+fn main(rt: HostRuntime) -> io::Result<()> {
+    let mut input = rt.stdin();
+    let mut space = [0u8; 65536];
+    for _ in 0..1000 {
+        if !run_case(&rt, &mut input, &mut space)? {
+            return Ok(());
         }
-        left -= 1;
     }
+    Ok(())
 }

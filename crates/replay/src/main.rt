@@ -2,29 +2,48 @@
 // with the stored answer.
 #![tactic(auto)]
 
-use libc::{STDIN_FILENO, STDOUT_FILENO};
+ghost use Rattle.std.specs.Io.{ReadsAtMost};
+
 use offsets::Fixed;
 use search_from::Listing;
+use std::io;
+use std::io::Read;
 use values::Valued;
 
-// Reads n bytes into the first places; whether all were there.
-fn read_first(space: &mut [u8], n: usize) -> bool {
-    if space.len() < n {
-        return false;
+// Reads until buf is full or the input ends, and returns how many bytes it put at the start of buf.
+fn read_full<R: Read>(input: &mut R, buf: &mut [u8]) -> io::Result<usize>
+    ensures { ReadsAtMost result buf.new }
+{
+    let mut done = 0;
+    while done < buf.len() {
+        let n = input.read(&mut buf[done..])?;
+        if n == 0 {
+            break;
+        }
+        done += n;
     }
-    io::read_full(STDIN_FILENO, &mut space[..n]) == n
+    Ok(done)
+}
+
+// Reads n bytes into the first places; whether all were there.
+fn read_first<R: Read>(input: &mut R, space: &mut [u8], n: usize) -> io::Result<bool> {
+    if space.len() < n {
+        return Ok(false);
+    }
+    let got = read_full(input, &mut space[..n])?;
+    Ok(got == n)
 }
 
 // Whether the report of the bundle is the answer in the first m bytes of `due`.
 fn reported(bundle: &[u8], due: &[u8], m: usize) -> bool {
-    let mut out = io::large_buffer();
+    let mut out = [0u8; 65536];
     let answer = report::report(bundle, &mut out);
     stored::is_due(answer, &out, due, m)
 }
 
 // The same for the renumbered bundle.
 fn renumbered(bundle: &[u8], due: &[u8], m: usize) -> bool {
-    let mut out = io::large_buffer();
+    let mut out = [0u8; 65536];
     let answer = renumber::renumber(bundle, &mut out);
     stored::is_due(answer, &out, due, m)
 }
@@ -107,27 +126,27 @@ pub enum Head {
 }
 
 // Reads the head of a case: its kind, and the two lengths in two bytes each.
-fn read_head() -> Head {
+fn read_head<R: Read>(input: &mut R) -> io::Result<Head> {
     let mut head = [0u8; 5];
-    if io::read_full(STDIN_FILENO, &mut head) < 5 {
-        return Head::End;
+    if read_full(input, &mut head)? < 5 {
+        return Ok(Head::End);
     }
     let asked = bundle::u16_at(&head, 1) as usize;
     let due = bundle::u16_at(&head, 3) as usize;
-    Head::Case(head[0], asked, due)
+    Ok(Head::Case(head[0], asked, due))
 }
 
 // Reads what is asked and the answer, and compares.
-fn run_case(kind: u8, n: usize, m: usize) -> bool {
-    let mut space = io::large_buffer();
-    let mut due = io::large_buffer();
-    if !read_first(&mut space, n) {
-        return false;
+fn run_case<R: Read>(input: &mut R, kind: u8, n: usize, m: usize) -> io::Result<bool> {
+    let mut space = [0u8; 65536];
+    let mut due = [0u8; 65536];
+    if !read_first(input, &mut space, n)? {
+        return Ok(false);
     }
-    if !read_first(&mut due, m) {
-        return false;
+    if !read_first(input, &mut due, m)? {
+        return Ok(false);
     }
-    answered(kind, &space, n, &due, m)
+    Ok(answered(kind, &space, n, &due, m))
 }
 
 // How many cases gave the answer due, and how many another one.
@@ -150,28 +169,24 @@ fn counted(tally: Tally, same: bool) -> Tally {
     }
 }
 
-fn print(tally: Tally) {
-    io::print_decimal(STDOUT_FILENO, tally.same);
-    io::write_all(STDOUT_FILENO, b" answers the same, ");
-    io::print_decimal(STDOUT_FILENO, tally.other);
-    io::write_all(STDOUT_FILENO, b" others\n");
+fn print(rt: &impl Print, tally: Tally) -> io::Result<()> {
+    println!(rt; "{} answers the same, {} others", tally.same, tally.other)
 }
 
 // The cases up to the last, but no more than 5,000.
-fn run_cases() -> Tally {
+fn run_cases<R: Read>(input: &mut R) -> io::Result<Tally> {
     let mut tally = Tally { same: 0, other: 0 };
-    let mut left: usize = 5000;
-    while 0 < left {
-        let head = read_head();
+    for _ in 0..5000 {
+        let head = read_head(input)?;
         let Head::Case(kind, n, m) = head else {
-            return tally;
+            return Ok(tally);
         };
-        tally = counted(tally, run_case(kind, n, m));
-        left -= 1;
+        tally = counted(tally, run_case(input, kind, n, m)?);
     }
-    tally
+    Ok(tally)
 }
 
-fn main() {
-    print(run_cases());
+fn main(rt: HostRuntime) -> io::Result<()> {
+    let tally = run_cases(&mut rt.stdin())?;
+    print(&rt, tally)
 }

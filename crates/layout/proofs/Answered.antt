@@ -1,0 +1,65 @@
+-- Where nothing is said, the answer to what the input had was written.
+use Rattle.std.proofs.Common.{ℕ, ◌≡◌, ◌≢◌, ◌≤◌, ◌<◌, Bool, true, false, List, [], ◌∷◌, ◌++◌, length, take, Option, None, Some, IfSome, IsTrue, arith, refl, sym, ap, subst, ◌∙◌, append-nil, length-take-le, take_all}
+use lib.Seq.{take-append_seam}
+use Rattle.std.specs.Io.KnownBytes.{Appends}
+use Rattle.words.specs.Running.{reads_bundle, message_of}
+use Rattle.words.specs.declared.Input as got
+use Rattle.words.specs.declared.Input.TheVariants.{Bytes, Failed}
+use Rattle.words.specs.declared.Message as told
+use Rattle.words.specs.declared.Message.TheVariants.{Nothing}
+use Rattle.words.specs.declared.Order as asked
+use Rattle.words.specs.declared.Order.TheVariants.{Report, Renumber, Chain, Followed, Size, Value, Help, Wrong}
+use Rattle.responses.specs.Response.{Holds, answer_to}
+use Rattle.layout.specs.Reading.{ReadAll, ReadFor, ReadInto}
+use Rattle.layout.specs.Response.{output_of}
+use Rattle.layout.proofs.Overlong.{same_answer}
+
+-- the bytes that were read are the first of the input, as many as there are places
+first_bytes : (room n : ℕ) (places bytes rest : List ℕ) → length places ≡ room → n ≤ length places → bytes ≡ take n places ++ rest → (n < length places → rest ≡ []) → take n places ≡ take room bytes
+first_bytes room n places bytes [] size within whole last =
+    let long = length-take-le n places within in
+    sym (ap (take room) (whole ∙ append-nil (take n places)) ∙ take_all room (take n places) (omega arith))
+first_bytes room n places bytes (x ∷ xs) size within whole last =
+    let full : n < length places → ⊥ = λ h. let none = last h in cc in
+    let long : length (take n places) ≡ room = length-take-le n places within ∙ omega arith in
+    sym (ap (take room) whole ∙ ap (λ k. take k (take n places ++ (x ∷ xs))) (sym long) ∙ take-append_seam (take n places) (x ∷ xs))
+
+-- an answer to what was read is one to the input
+for_bundle : (order : asked.Order) (n : ℕ) (places text : List ℕ) (before after old new : Option (List ℕ)) → length places ≡ 32769 → n ≤ length places → ReadAll (Bytes n) places before after
+    → text ≡ answer_to order (take n places) → Appends old new text → IfSome before (λ bytes. Appends old new (answer_to order bytes))
+for_bundle order n places text None after old new size within reads same wrote = tt
+for_bundle order n places text (Some bytes) None old new size within reads same wrote = absurd reads.0
+for_bundle order n places text (Some bytes) (Some rest) old new size within reads same wrote =
+    let first = first_bytes 32769 n places bytes rest size within reads.0 reads.1 in
+    subst (Appends old new) (same ∙ ap (answer_to order) first ∙ same_answer order bytes) wrote
+
+-- the same for each order
+pub answered : (order : asked.Order) (read : got.Input) (written : Bool) (message : told.Message) (size : ℕ) (places out : List ℕ) (before after old new : Option (List ℕ)) → length places ≡ 32769 → ReadInto read places
+    → ReadFor (reads_bundle order) read places before after → Holds (output_of order read places) out size → (order ≢ Help → IsTrue written → Appends old new (take size out))
+    → message ≡ message_of order read written → message ≡ Nothing → order ≢ Help → IfSome before (λ bytes. Appends old new (answer_to order bytes))
+answered Report (Bytes n) true message size places out before after old new long into reads holds wrote is said not_help =
+    for_bundle Report n places (take size out) before after old new long into reads holds.first (wrote not_help refl)
+answered Renumber (Bytes n) true message size places out before after old new long into reads holds wrote is said not_help =
+    for_bundle Renumber n places (take size out) before after old new long into reads holds.first (wrote not_help refl)
+answered (Chain from to) (Bytes n) true message size places out before after old new long into reads holds wrote is said not_help =
+    for_bundle (Chain from to) n places (take size out) before after old new long into reads holds.first (wrote not_help refl)
+answered (Followed from to) (Bytes n) true message size places out before after old new long into reads holds wrote is said not_help =
+    for_bundle (Followed from to) n places (take size out) before after old new long into reads holds.first (wrote not_help refl)
+answered (Size definition) (Bytes n) true message size places out before after old new long into reads holds wrote is said not_help =
+    for_bundle (Size definition) n places (take size out) before after old new long into reads holds.first (wrote not_help refl)
+answered (Value definition) (Bytes n) true message size places out before after old new long into reads holds wrote is said not_help =
+    for_bundle (Value definition) n places (take size out) before after old new long into reads holds.first (wrote not_help refl)
+answered Report (Bytes n) false message size places out before after old new long into reads holds wrote is said not_help = cc
+answered Renumber (Bytes n) false message size places out before after old new long into reads holds wrote is said not_help = cc
+answered (Chain from to) (Bytes n) false message size places out before after old new long into reads holds wrote is said not_help = cc
+answered (Followed from to) (Bytes n) false message size places out before after old new long into reads holds wrote is said not_help = cc
+answered (Size definition) (Bytes n) false message size places out before after old new long into reads holds wrote is said not_help = cc
+answered (Value definition) (Bytes n) false message size places out before after old new long into reads holds wrote is said not_help = cc
+answered Report Failed written message size places out before after old new long into reads holds wrote is said not_help = cc
+answered Renumber Failed written message size places out before after old new long into reads holds wrote is said not_help = cc
+answered (Chain from to) Failed written message size places out before after old new long into reads holds wrote is said not_help = cc
+answered (Followed from to) Failed written message size places out before after old new long into reads holds wrote is said not_help = cc
+answered (Size definition) Failed written message size places out before after old new long into reads holds wrote is said not_help = cc
+answered (Value definition) Failed written message size places out before after old new long into reads holds wrote is said not_help = cc
+answered Wrong read written message size places out before after old new long into reads holds wrote is said not_help = cc
+answered Help read written message size places out before after old new long into reads holds wrote is said not_help = absurd (not_help refl)
