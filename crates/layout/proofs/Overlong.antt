@@ -20,8 +20,8 @@ overlong s h = ap (λ b. cond b (read_records s 0) (refused 1)) (lt-leb (length 
 same_reading : (s : List ℕ) → read_bundle (take 32769 s) ≡ read_bundle s
 same_reading s =
     elim (leb_tells (length s) 32769) [
-      inl short ↦ ap read_bundle (take_all 32769 s short.1)
-    | inr long ↦ let room = length-take-le 32769 s (omega arith) in overlong (take 32769 s) (omega arith) ∙ sym (overlong s (omega arith))
+      | inl short ↦ ap read_bundle (take_all 32769 s short.1)
+      | inr long ↦ let room = length-take-le 32769 s (omega arith) in overlong (take 32769 s) (omega arith) ∙ sym (overlong s (omega arith))
     ]
 
 pub same_answer : (order : Order) (s : List ℕ) → answer_to order (take 32769 s) ≡ answer_to order s
