@@ -2,7 +2,7 @@
 use Rattle.std.proofs.Common.{ℕ, ◌≡◌, ◌≢◌, ◌≤◌, ◌<◌, Bool, true, false, List, [], ◌∷◌, ◌++◌, length, take, Option, None, Some, IfSome, IsTrue, arith, refl, sym, ap, subst, ◌∙◌, append-nil, length-take-le, take_all}
 use lib.Seq.{take-append_seam}
 use Rattle.std.specs.Io.KnownBytes.{Appends}
-use Rattle.words.specs.Running.{reads_bundle, message_of}
+use Rattle.words.specs.Running.{reads_bundle, failure_of, message_of}
 use Rattle.words.specs.declared.Input as got
 use Rattle.words.specs.declared.Input.TheVariants.{Bytes, Failed}
 use Rattle.words.specs.declared.Message as told
@@ -33,33 +33,29 @@ for_bundle order n places text (Some bytes) (Some rest) old new size within read
     let first = first_bytes 32769 n places bytes rest size within reads.0 reads.1 in
     subst (Appends old new) (same ∙ ap (answer_to order) first ∙ same_answer order bytes) wrote
 
+-- an order of which nothing is said, but for help, reads a bundle, and neither reading nor writing failed
+fine : (order : asked.Order) (read : got.Input) (written : Bool) → message_of order read written ≡ Nothing → order ≢ Help → (reads_bundle order ≡ true) × (failure_of read written ≡ Nothing)
+fine Report read written said not_help = (refl, said)
+fine Renumber read written said not_help = (refl, said)
+fine (Chain from to) read written said not_help = (refl, said)
+fine (Followed from to) read written said not_help = (refl, said)
+fine (Size definition) read written said not_help = (refl, said)
+fine (Value definition) read written said not_help = (refl, said)
+fine Help read written said not_help = absurd (not_help refl)
+fine Wrong read written said not_help = absurd (cc)
+
+-- what was written where neither failed
+without_failure : (order : asked.Order) (read : got.Input) (written : Bool) (size : ℕ) (places out : List ℕ) (before after old new : Option (List ℕ)) → failure_of read written ≡ Nothing → length places ≡ 32769 → ReadInto read places
+    → ReadAll read places before after → Holds (output_of order read places) out size → (IsTrue written → Appends old new (take size out)) → IfSome before (λ bytes. Appends old new (answer_to order bytes))
+without_failure order (Bytes n) true size places out before after old new ok long into reads holds wrote =
+    for_bundle order n places (take size out) before after old new long into reads holds.first (wrote refl)
+without_failure order (Bytes n) false size places out before after old new ok long into reads holds wrote = cc
+without_failure order Failed written size places out before after old new ok long into reads holds wrote = cc
+
 -- the same for each order
 pub answered : (order : asked.Order) (read : got.Input) (written : Bool) (message : told.Message) (size : ℕ) (places out : List ℕ) (before after old new : Option (List ℕ)) → length places ≡ 32769 → ReadInto read places
     → ReadFor (reads_bundle order) read places before after → Holds (output_of order read places) out size → (order ≢ Help → IsTrue written → Appends old new (take size out))
     → message ≡ message_of order read written → message ≡ Nothing → order ≢ Help → IfSome before (λ bytes. Appends old new (answer_to order bytes))
-answered Report (Bytes n) true message size places out before after old new long into reads holds wrote is said not_help =
-    for_bundle Report n places (take size out) before after old new long into reads holds.first (wrote not_help refl)
-answered Renumber (Bytes n) true message size places out before after old new long into reads holds wrote is said not_help =
-    for_bundle Renumber n places (take size out) before after old new long into reads holds.first (wrote not_help refl)
-answered (Chain from to) (Bytes n) true message size places out before after old new long into reads holds wrote is said not_help =
-    for_bundle (Chain from to) n places (take size out) before after old new long into reads holds.first (wrote not_help refl)
-answered (Followed from to) (Bytes n) true message size places out before after old new long into reads holds wrote is said not_help =
-    for_bundle (Followed from to) n places (take size out) before after old new long into reads holds.first (wrote not_help refl)
-answered (Size definition) (Bytes n) true message size places out before after old new long into reads holds wrote is said not_help =
-    for_bundle (Size definition) n places (take size out) before after old new long into reads holds.first (wrote not_help refl)
-answered (Value definition) (Bytes n) true message size places out before after old new long into reads holds wrote is said not_help =
-    for_bundle (Value definition) n places (take size out) before after old new long into reads holds.first (wrote not_help refl)
-answered Report (Bytes n) false message size places out before after old new long into reads holds wrote is said not_help = cc
-answered Renumber (Bytes n) false message size places out before after old new long into reads holds wrote is said not_help = cc
-answered (Chain from to) (Bytes n) false message size places out before after old new long into reads holds wrote is said not_help = cc
-answered (Followed from to) (Bytes n) false message size places out before after old new long into reads holds wrote is said not_help = cc
-answered (Size definition) (Bytes n) false message size places out before after old new long into reads holds wrote is said not_help = cc
-answered (Value definition) (Bytes n) false message size places out before after old new long into reads holds wrote is said not_help = cc
-answered Report Failed written message size places out before after old new long into reads holds wrote is said not_help = cc
-answered Renumber Failed written message size places out before after old new long into reads holds wrote is said not_help = cc
-answered (Chain from to) Failed written message size places out before after old new long into reads holds wrote is said not_help = cc
-answered (Followed from to) Failed written message size places out before after old new long into reads holds wrote is said not_help = cc
-answered (Size definition) Failed written message size places out before after old new long into reads holds wrote is said not_help = cc
-answered (Value definition) Failed written message size places out before after old new long into reads holds wrote is said not_help = cc
-answered Wrong read written message size places out before after old new long into reads holds wrote is said not_help = cc
-answered Help read written message size places out before after old new long into reads holds wrote is said not_help = absurd (not_help refl)
+answered order read written message size places out before after old new long into reads holds wrote is said not_help =
+    let f : (reads_bundle order ≡ true) × (failure_of read written ≡ Nothing) = fine order read written (sym is ∙ said) not_help in
+    without_failure order read written size places out before after old new f.1 long into (subst (λ b. ReadFor b read places before after) f.0 reads) holds (wrote not_help)
