@@ -8,14 +8,15 @@ use mathlib.Core.Logic.{⊎_elim}
 use mathlib.Core.Path.{◌≡◌, refl, sym, ◌∙◌}
 use mathlib.Core.List.Memᴰ
 use mathlib.Core.List.{List, [], ◌∷◌, ◌++◌, Memᴰ}
-use lib.ListN.{length, get_or, set, replicate, length-set, length-replicate}
+use lib.ListN.{length, set, replicate, length-set, length-replicate}
 use lib.Seq.{get_or-set_same, get_or-set_other}
 use Rattle.meaning.specs.Tree.{Bundle}
 use Rattle.meaning.specs.Lookup.{count}
 use Rattle.meaning.specs.Circle.{leads_to, Leads, direct, onward, circles}
-use Rattle.meaning.proofs.Lists.{get_d_zeros}
 use Rattle.meaning.proofs.Circle.{circles_iff, leads_from}
-use Rattle.acceptance.specs.Circles.{Ends, ends, unwalked, Marks, Followed, Decided, fine, loops}
+use Rattle.acceptance.specs.declared.Mark.{Mark}
+use Rattle.acceptance.specs.declared.Mark.TheVariants.{Unseen, OnWay, Walked}
+use Rattle.acceptance.specs.Circles.{Ends, ends, unwalked, mark_at, Marks, Followed, Decided, fine, loops}
 
 -- Where definitions lead.
 
@@ -40,32 +41,39 @@ module _ {b : Bundle} where
       go true e = let r = (circles_iff b).0 e in absurd (no_return (h r.0 (leads_from b r.1)) r.1)
       go false e = refl
 
--- How many marks are 0.
+-- How many definitions are not walked and not on the way.
 
-unwalked_set : (ms : List ℕ) (i v : ℕ) → 0 < v → unwalked (set ms i v) ≤ unwalked ms
+unwalked_set : (ms : List Mark) (i : ℕ) (v : Mark) → (v ≡ Unseen → ⊥) → unwalked (set ms i v) ≤ unwalked ms
 unfolding unwalked
 unwalked_set [] i v h = omega arith
-unwalked_set (m ∷ ms) i zero h = absurd (omega arith)
-unwalked_set (zero ∷ ms) zero (suc v) h = omega arith
-unwalked_set (suc m ∷ ms) zero (suc v) h = omega arith
-unwalked_set (zero ∷ ms) (suc i) (suc v) h = omega (arith, unwalked_set ms i (suc v) h)
-unwalked_set (suc m ∷ ms) (suc i) (suc v) h = unwalked_set ms i (suc v) h
+unwalked_set (m ∷ ms) zero Unseen h = absurd (h refl)
+unwalked_set (Unseen ∷ ms) zero OnWay h = omega arith
+unwalked_set (Unseen ∷ ms) zero Walked h = omega arith
+unwalked_set (OnWay ∷ ms) zero OnWay h = omega arith
+unwalked_set (OnWay ∷ ms) zero Walked h = omega arith
+unwalked_set (Walked ∷ ms) zero OnWay h = omega arith
+unwalked_set (Walked ∷ ms) zero Walked h = omega arith
+unwalked_set (Unseen ∷ ms) (suc i) v h = omega (arith, unwalked_set ms i v h)
+unwalked_set (OnWay ∷ ms) (suc i) v h = unwalked_set ms i v h
+unwalked_set (Walked ∷ ms) (suc i) v h = unwalked_set ms i v h
 
-pub unwalked_less : (ms : List ℕ) (i : ℕ) → i < length ms → get_or ms i 0 ≡ 0 → unwalked (set ms i 1) < unwalked ms
+pub unwalked_less : (ms : List Mark) (i : ℕ) → i < length ms → mark_at ms i ≡ Unseen → unwalked (set ms i OnWay) < unwalked ms
 unfolding unwalked
 unwalked_less [] i h e = absurd (omega arith)
-unwalked_less (zero ∷ ms) zero h e = omega arith
-unwalked_less (suc m ∷ ms) zero h e = absurd (omega arith)
-unwalked_less (zero ∷ ms) (suc i) h e = omega (arith, unwalked_less ms i (le_of_suc-le-suc h) e)
-unwalked_less (suc m ∷ ms) (suc i) h e = unwalked_less ms i (le_of_suc-le-suc h) e
+unwalked_less (Unseen ∷ ms) zero h e = omega arith
+unwalked_less (OnWay ∷ ms) zero h e = absurd (let z : ◌≡◌ {A = ℕ} 0 1 = cc in omega arith)
+unwalked_less (Walked ∷ ms) zero h e = absurd (let z : ◌≡◌ {A = ℕ} 0 1 = cc in omega arith)
+unwalked_less (Unseen ∷ ms) (suc i) h e = omega (arith, unwalked_less ms i (le_of_suc-le-suc h) e)
+unwalked_less (OnWay ∷ ms) (suc i) h e = unwalked_less ms i (le_of_suc-le-suc h) e
+unwalked_less (Walked ∷ ms) (suc i) h e = unwalked_less ms i (le_of_suc-le-suc h) e
 
 -- The parts of a walk.
 
 module _ {b : Bundle} where
-  pub followed_none : {ds marks : List ℕ} → Marks b ds marks → Followed b [] marks marks
+  pub followed_none : {ds : List ℕ} {marks : List Mark} → Marks b ds marks → Followed b [] marks marks
   followed_none g = record { end = λ d m. absurd (Memᴰ.not-nil m); size = g.size; walked = g.walked; way = λ i e. e; left = omega arith }
 
-  pub followed_both : {xs ys m₀ m₁ m₂ : List ℕ} → Followed b xs m₀ m₁ → Followed b ys m₁ m₂ → Followed b (xs ++ ys) m₀ m₂
+  pub followed_both : {xs ys : List ℕ} {m₀ m₁ m₂ : List Mark} → Followed b xs m₀ m₁ → Followed b ys m₁ m₂ → Followed b (xs ++ ys) m₀ m₂
   followed_both {xs} {ys} f g =
       record {
         end = λ d m. ⊎_elim (f.end d) (g.end d) (Memᴰ.append_cases xs m);
@@ -75,61 +83,61 @@ module _ {b : Bundle} where
         left = omega (arith, f.left, g.left);
       }
 
-  pub marks_left : (xs ys : List ℕ) {marks : List ℕ} → Marks b (xs ++ ys) marks → Marks b xs marks
+  pub marks_left : (xs ys : List ℕ) {marks : List Mark} → Marks b (xs ++ ys) marks → Marks b xs marks
   marks_left xs ys g = record { size = g.size; walked = g.walked; way = λ i d e m. g.way i d e (Memᴰ.append_left ys m) }
 
-  pub marks_right : (xs ys : List ℕ) {before after : List ℕ} → Marks b (xs ++ ys) before → Followed b xs before after → Marks b ys after
+  pub marks_right : (xs ys : List ℕ) {before after : List Mark} → Marks b (xs ++ ys) before → Followed b xs before after → Marks b ys after
   marks_right xs ys g f = record { size = f.size; walked = f.walked; way = λ i d e m. g.way i d (f.way i e) (Memᴰ.append_right xs m) }
 
   -- definition i, by its mark
-  module _ {i : ℕ} {marks : List ℕ} (g : Marks b (i ∷ []) marks) where
-    pub one_walked : 1 < get_or marks i 0 → Decided b (i ∷ []) marks marks true
+  module _ {i : ℕ} {marks : List Mark} (g : Marks b (i ∷ []) marks) where
+    pub one_walked : mark_at marks i ≡ Walked → Decided b (i ∷ []) marks marks true
     one_walked h =
         fine (record { end = λ d m. rw (Memᴰ.eq_of_singleton m) (g.walked i h); size = g.size; walked = g.walked; way = λ j e. e; left = omega arith })
 
-    pub one_way : get_or marks i 0 ≡ 1 → Decided b (i ∷ []) marks marks false
+    pub one_way : mark_at marks i ≡ OnWay → Decided b (i ∷ []) marks marks false
     one_way e = loops (g.way i i e (Memᴰ.head refl))
 
     module _ (h : i < 256) where
       -- a mark that is 1 now
-      set_way : (j : ℕ) → get_or (set marks i 1) j 0 ≡ 1 → (j ≡ i → ⊥) → get_or marks j 0 ≡ 1
-      set_way j e n = sym (get_or-set_other marks i j 1 0 n) ∙ e
+      set_way : (j : ℕ) → mark_at (set marks i OnWay) j ≡ OnWay → (j ≡ i → ⊥) → mark_at marks j ≡ OnWay
+      set_way j e n = sym (get_or-set_other marks i j OnWay Unseen n) ∙ e
 
-      pub marks_inside : Marks b (leads_to b i) (set marks i 1)
-      marks_inside = record { size = length-set marks i 1 ∙ g.size; walked = λ j. done j (ℕ_discrete j i); way = λ j d. way j d (ℕ_discrete j i) }
+      pub marks_inside : Marks b (leads_to b i) (set marks i OnWay)
+      marks_inside = record { size = length-set marks i OnWay ∙ g.size; walked = λ j. done j (ℕ_discrete j i); way = λ j d. way j d (ℕ_discrete j i) }
         where
-          done : (j : ℕ) → Dec (j ≡ i) → 1 < get_or (set marks i 1) j 0 → Ends b j
-          done j (yes e) l = absurd (omega (arith, rw (e, get_or-set_same marks i 1 0 (omega (arith, g.size))) at l))
-          done j (no n) l = g.walked j (rw (get_or-set_other marks i j 1 0 n) at l)
+          done : (j : ℕ) → Dec (j ≡ i) → mark_at (set marks i OnWay) j ≡ Walked → Ends b j
+          done j (yes e) l = let q = rw (e, get_or-set_same marks i OnWay Unseen (omega (arith, g.size))) at l in let z : ◌≡◌ {A = ℕ} 0 1 = cc in absurd (omega arith)
+          done j (no n) l = g.walked j (rw (get_or-set_other marks i j OnWay Unseen n) at l)
 
-          way : (j d : ℕ) → Dec (j ≡ i) → get_or (set marks i 1) j 0 ≡ 1 → Memᴰ d (leads_to b i) → Leads b j d
+          way : (j d : ℕ) → Dec (j ≡ i) → mark_at (set marks i OnWay) j ≡ OnWay → Memᴰ d (leads_to b i) → Leads b j d
           way j d (yes e) q m = rw e (direct m)
           way j d (no n) q m = leads_on (g.way j i (set_way j q n) (Memᴰ.head refl)) m
 
-      pub one_more : {after : List ℕ} → Followed b (leads_to b i) (set marks i 1) after → Decided b (i ∷ []) marks (set after i 2) true
+      pub one_more : {after : List Mark} → Followed b (leads_to b i) (set marks i OnWay) after → Decided b (i ∷ []) marks (set after i Walked) true
       one_more {after} f =
           fine (record {
             end = λ d m. rw (Memᴰ.eq_of_singleton m) itself;
-            size = length-set after i 2 ∙ f.size;
+            size = length-set after i Walked ∙ f.size;
             walked = λ j. done j (ℕ_discrete j i);
             way = λ j. way j (ℕ_discrete j i);
-            left = omega (arith, unwalked_set after i 2 (omega arith), f.left, unwalked_set marks i 1 (omega arith));
+            left = omega (arith, unwalked_set after i Walked (λ e. let z : ◌≡◌ {A = ℕ} 0 1 = cc in omega arith), f.left, unwalked_set marks i OnWay (λ e. let z : ◌≡◌ {A = ℕ} 0 1 = cc in omega arith));
           })
         where
           itself : Ends b i
           itself = ends f.end
 
-          done : (j : ℕ) → Dec (j ≡ i) → 1 < get_or (set after i 2) j 0 → Ends b j
+          done : (j : ℕ) → Dec (j ≡ i) → mark_at (set after i Walked) j ≡ Walked → Ends b j
           done j (yes e) l = rw e itself
-          done j (no n) l = f.walked j (rw (get_or-set_other after i j 2 0 n) at l)
+          done j (no n) l = f.walked j (rw (get_or-set_other after i j Walked Unseen n) at l)
 
-          way : (j : ℕ) → Dec (j ≡ i) → get_or (set after i 2) j 0 ≡ 1 → get_or marks j 0 ≡ 1
-          way j (yes e) q = absurd (omega (arith, rw (e, get_or-set_same after i 2 0 (omega (arith, f.size))) at q))
-          way j (no n) q = set_way j (f.way j (sym (get_or-set_other after i j 2 0 n) ∙ q)) n
+          way : (j : ℕ) → Dec (j ≡ i) → mark_at (set after i Walked) j ≡ OnWay → mark_at marks j ≡ OnWay
+          way j (yes e) q = let p : Walked ≡ OnWay = rw (e, get_or-set_same after i Walked Unseen (omega (arith, f.size))) at q in let z : ◌≡◌ {A = ℕ} 0 1 = cc in absurd (omega arith)
+          way j (no n) q = set_way j (f.way j (sym (get_or-set_other after i j Walked Unseen n) ∙ q)) n
 
   -- What an answer says.
 
-  module _ {ds before after : List ℕ} where
+  module _ {ds : List ℕ} {before after : List Mark} where
     pub decided_true : {r : Bool} → Decided b ds before after r → r ≡ true → Followed b ds before after
     decided_true (fine f) p = f
     decided_true (loops w) p = let z : ◌≡◌ {A = ℕ} 0 1 = cc in absurd (omega arith)
@@ -138,27 +146,32 @@ module _ {b : Bundle} where
     decided_loop (fine f) p = let z : ◌≡◌ {A = ℕ} 0 1 = cc in absurd (omega arith)
     decided_loop (loops {i} w) p = (i, w)
 
+fresh : (n j : ℕ) → mark_at (replicate n Unseen) j ≡ Unseen
+fresh zero j = refl
+fresh (suc n) zero = refl
+fresh (suc n) (suc j) = fresh n j
+
 -- the first i definitions are walked, and nothing is on the way
-pub record Settled (b : Bundle) (marks : List ℕ) (i : ℕ) : Type 0 where
+pub record Settled (b : Bundle) (marks : List Mark) (i : ℕ) : Type 0 where
   pub size : length marks ≡ 256
-  pub walked : (j : ℕ) → 1 < get_or marks j 0 → Ends b j
-  pub clear : (j : ℕ) → get_or marks j 0 ≡ 1 → ⊥
+  pub walked : (j : ℕ) → mark_at marks j ≡ Walked → Ends b j
+  pub clear : (j : ℕ) → mark_at marks j ≡ OnWay → ⊥
   pub end : (j : ℕ) → j < i → Ends b j
 
-pub settled_start : (b : Bundle) → Settled b (replicate 256 0) 0
+pub settled_start : (b : Bundle) → Settled b (replicate 256 Unseen) 0
 settled_start b =
     record {
-      size = length-replicate {A = ℕ} 256 0;
-      walked = λ j h. absurd (omega (arith, rw (get_d_zeros 256 j) at h));
-      clear = λ j e. absurd (omega (arith, rw (get_d_zeros 256 j) at e));
+      size = length-replicate {A = Mark} 256 Unseen;
+      walked = λ j h. let q = sym (fresh 256 j) ∙ h in let z : ◌≡◌ {A = ℕ} 0 1 = cc in absurd (omega arith);
+      clear = λ j e. let q = sym (fresh 256 j) ∙ e in let z : ◌≡◌ {A = ℕ} 0 1 = cc in omega arith;
       end = λ j h. absurd (omega arith);
     }
 
-module _ {b : Bundle} {marks : List ℕ} {i : ℕ} (g : Settled b marks i) where
+module _ {b : Bundle} {marks : List Mark} {i : ℕ} (g : Settled b marks i) where
   pub settled_marks : Marks b (i ∷ []) marks
   settled_marks = record { size = g.size; walked = g.walked; way = λ j d e m. absurd (g.clear j e) }
 
-  pub settled_next : {after : List ℕ} → Followed b (i ∷ []) marks after → Settled b after (i + 1)
+  pub settled_next : {after : List Mark} → Followed b (i ∷ []) marks after → Settled b after (i + 1)
   settled_next f = record { size = f.size; walked = f.walked; clear = λ j e. g.clear j (f.way j e); end = λ j h. last j (ℕ_discrete j i) h }
     where
       last : (j : ℕ) → Dec (j ≡ i) → j < i + 1 → Ends b j

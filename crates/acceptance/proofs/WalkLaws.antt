@@ -8,20 +8,22 @@ use lib.ListN.{length, get_or, set}
 use Rattle.meaning.specs.Lookup.{count, definition_of}
 use Rattle.meaning.specs.Circle.{resolve, leads_to}
 use Rattle.bundle.specs.Definitions.{type_at, bundle_of, Table}
-use Rattle.scan.specs.Parts.{Part, lead, type_parts}
+use Rattle.scan.specs.Parts.{Part, type_parts}
 use Rattle.scan.specs.Scan.{record_name, part_at, Run, Records, lead_to, stops, from_stop, NextStop}
 use Rattle.scan.proofs.ScanLaws.{run_none, Lead, first_lead, stop_leads, from_names}
 use Rattle.scan.proofs.Walks.{lead_none, lead_one, definition_flat, definition_lead}
-use Rattle.acceptance.specs.Circles.{unwalked, Marks, Followed, Decided}
+use Rattle.acceptance.specs.declared.Mark.{Mark}
+use Rattle.acceptance.specs.declared.Mark.TheVariants.{Unseen, OnWay, Walked}
+use Rattle.acceptance.specs.Circles.{unwalked, mark_at, Marks, Followed, Decided}
 use Rattle.acceptance.proofs.CircleLaws.{unwalked_less, followed_none, followed_both, marks_left, marks_right, marks_inside, one_more}
 
 -- definition i is on its way: the records from `at` on are to be walked, of those that end at `end`
-pub record Walking (s : List ℕ) (i end : ℕ) (before marks : List ℕ) (at : ℕ) : Type 0 where
+pub record Walking (s : List ℕ) (i end : ℕ) (before marks : List Mark) (at : ℕ) : Type 0 where
   pub bound : end ≤ length s
   pub parts : List Part
   pub run : Run s end at parts
   pub marked : Marks (bundle_of s) (lead_to s parts) marks
-  pub whole : (after : List ℕ) → Followed (bundle_of s) (lead_to s parts) marks after → Followed (bundle_of s) (leads_to (bundle_of s) i) before after
+  pub whole : (after : List Mark) → Followed (bundle_of s) (lead_to s parts) marks after → Followed (bundle_of s) (leads_to (bundle_of s) i) before after
   pub fewer : unwalked marks ≤ unwalked before
   pub stop : at < end → stops false false (part_at s at) ≡ true
 
@@ -30,14 +32,14 @@ onward : (s : List ℕ) (ps : List Part) → lead_to s (from_stop false false ps
 onward s ps = ap (resolve (bundle_of s)) (from_names false false ps)
 
 -- definition i of a bundle, whose mark is 0: before its first record and behind its last
-module _ {s : List ℕ} {n : ℕ} {places : List ℕ} (t : Table s n places) {i : ℕ} (h : i < n) {marks : List ℕ} (g : Marks (bundle_of s) (i ∷ []) marks) where
+module _ {s : List ℕ} {n : ℕ} {places : List ℕ} (t : Table s n places) {i : ℕ} (h : i < n) {marks : List Mark} (g : Marks (bundle_of s) (i ∷ []) marks) where
   pub place_below : i < 256
   place_below = omega (arith, t.count, t.placed.room)
 
-  pub place_less : get_or marks i 0 ≡ 0 → unwalked (set marks i 1) < unwalked marks
+  pub place_less : mark_at marks i ≡ Unseen → unwalked (set marks i OnWay) < unwalked marks
   place_less e = unwalked_less marks i (omega (arith, place_below, g.size)) e
 
-  pub walking_start : {at : ℕ} → NextStop s (get_or places i 0) (get_or places (i + 1) 0 - 3) false false at → Walking s i (get_or places (i + 1) 0 - 3) (set marks i 1) (set marks i 1) at
+  pub walking_start : {at : ℕ} → NextStop s (get_or places i 0) (get_or places (i + 1) 0 - 3) false false at → Walking s i (get_or places (i + 1) 0 - 3) (set marks i OnWay) (set marks i OnWay) at
   walking_start {at} l =
       let ps = type_parts (type_at 24 s (get_or places i 0)) in
       let q : lead_to s (from_stop false false ps) ≡ leads_to (bundle_of s) i = onward s ps ∙ definition_lead t h in
@@ -51,14 +53,14 @@ module _ {s : List ℕ} {n : ℕ} {places : List ℕ} (t : Table s n places) {i 
         stop = l.stop;
       }
 
-  pub walking_end : {end : ℕ} {after : List ℕ} {at : ℕ} → Walking s i end (set marks i 1) after at → end ≤ at → Decided (bundle_of s) (i ∷ []) marks (set after i 2) true
+  pub walking_end : {end : ℕ} {after : List Mark} {at : ℕ} → Walking s i end (set marks i OnWay) after at → end ≤ at → Decided (bundle_of s) (i ∷ []) marks (set after i Walked) true
   walking_end {end} {after} {at} w l =
       let q : lead_to s w.parts ≡ [] = ap (lead_to s) (run_none s end at w.parts w.run l) in
       let f : Followed (bundle_of s) [] after after = followed_none w.marked in
       one_more g place_below (w.whole after (rw q f))
 
 -- a record that leads, and the records behind it
-module _ {s : List ℕ} {i end : ℕ} {before marks : List ℕ} {at : ℕ} (w : Walking s i end before marks at) (h : at < end) where
+module _ {s : List ℕ} {i end : ℕ} {before marks : List Mark} {at : ℕ} (w : Walking s i end before marks at) (h : at < end) where
   here : Lead s end at w.parts
   here = first_lead s w.run h (stop_leads s at (w.stop h))
 
@@ -96,7 +98,7 @@ module _ {s : List ℕ} {i end : ℕ} {before marks : List ℕ} {at : ℕ} (w : 
           }
 
       -- definition j was walked
-      pub walking_next : j < count (bundle_of s) → {after : List ℕ} → Followed (bundle_of s) (j ∷ []) marks after → Walking s i end before after next
+      pub walking_next : j < count (bundle_of s) → {after : List Mark} → Followed (bundle_of s) (j ∷ []) marks after → Walking s i end before after next
       walking_next n {after} f =
           let p : lead_to s w.parts ≡ (j ∷ []) ++ lead_to s (from_stop false false here.rest) = one n ∙ ap (j ∷◌) (sym (onward s here.rest)) in
           record {

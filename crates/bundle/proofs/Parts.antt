@@ -1,4 +1,5 @@
 -- A type that was read, taken apart by its form: where its parts start, that they were read, and the tree from their trees.
+use Rattle.std.specs.Prelude.{Ok}
 use Prim.Native.Nat.{ℕ, zero, suc, ◌+◌, ◌-◌, ◌≤◌, ◌<◌}
 use native.Mathlib.Omega.{arith}
 use mathlib.Core.Path.{◌≡◌, refl, ap, ◌∙◌}
@@ -13,8 +14,6 @@ use Rattle.meaning.specs.ReadType.{head, array_head, member_head, read_member, r
 use Rattle.bundle.specs.declared.Form as code
 use Rattle.bundle.specs.declared.Form.TheVariants as form
 use Rattle.bundle.specs.declared.TypeForm.{TypeForm}
-use Rattle.bundle.specs.declared.Count.TheVariants.{Of}
-use Rattle.bundle.specs.declared.Step.TheVariants.{Next}
 use Rattle.bundle.specs.View.{type_form_meant, form_meant, step_of, count_of, Reads, value_or}
 use Rattle.bundle.specs.Definitions.{type_at, members_at, zero_group}
 use Rattle.bundle.specs.Expressions.{expr_at}
@@ -63,7 +62,7 @@ pub record GroupParts (make : Attributes → Members → Ty) (k d : ℕ) (s : Li
   pub tree : type_at d s at ≡ make attributes (members_at (d - 1) k n s i)
   pub ends : step_of (read_ty d s at) ≡ step_of (read_members (read_ty (d - 1)) k n s i)
 
-group_parts : (make : Attributes → Members → Ty) (k d : ℕ) (s : List ℕ) (at n i : ℕ) → Of n i ≡ count_of (head 2 s (at + 1))
+group_parts : (make : Attributes → Members → Ty) (k d : ℕ) (s : List ℕ) (at n i : ℕ) → Ok (n, i) ≡ count_of (head 2 s (at + 1))
     → Reads (read_group (read_ty (d - 1)) k s (at + 1))
     → (let g = value_or zero_group (read_group (read_ty (d - 1)) k s (at + 1)) in type_at d s at ≡ make g.attributes g.members)
     → step_of (read_ty d s at) ≡ step_of (read_group (read_ty (d - 1)) k s (at + 1)) → GroupParts make k d s at n i
@@ -97,13 +96,13 @@ pub record ArrayParts (d : ℕ) (s : List ℕ) (at i j : ℕ) : Type 0 where
   pub ends : step_of (read_ty d s at) ≡ step_of (read_ty (d - 1) s j)
 
 module _ {d at : ℕ} {s : List ℕ} {f : Form} (o : Opened d at s f) (r : Reads (read_ty d s at)) where
-  pub struct_parts : (n i : ℕ) → f ≡ OfType Struct → Of n i ≡ count_of (head 2 s (at + 1)) → GroupParts struct 0x50 d s at n i
+  pub struct_parts : (n i : ℕ) → f ≡ OfType Struct → Ok (n, i) ≡ count_of (head 2 s (at + 1)) → GroupParts struct 0x50 d s at n i
   struct_parts n i p c = group_parts struct 0x50 d s at n i c (struct_reads o r p) (struct_tree o r zero_group p) (struct_ends o p)
 
-  pub union_parts : (n i : ℕ) → f ≡ OfType Union → Of n i ≡ count_of (head 2 s (at + 1)) → GroupParts union 0x51 d s at n i
+  pub union_parts : (n i : ℕ) → f ≡ OfType Union → Ok (n, i) ≡ count_of (head 2 s (at + 1)) → GroupParts union 0x51 d s at n i
   union_parts n i p c = group_parts union 0x51 d s at n i c (union_reads o r p) (union_tree o r zero_group p) (union_ends o p)
 
-  pub size_union_parts : (n i : ℕ) → f ≡ OfType SizeUnion → Of n i ≡ count_of (head 2 s (at + 1)) → GroupParts size_union 0x53 d s at n i
+  pub size_union_parts : (n i : ℕ) → f ≡ OfType SizeUnion → Ok (n, i) ≡ count_of (head 2 s (at + 1)) → GroupParts size_union 0x53 d s at n i
   size_union_parts n i p c = group_parts size_union 0x53 d s at n i c (size_union_reads o r p) (size_union_tree o r zero_group p) (size_union_ends o p)
 
   -- the body that has the member count was read
@@ -124,11 +123,11 @@ module _ {d at : ℕ} {s : List ℕ} {f : Form} (o : Opened d at s f) (r : Reads
     unfolding read_enum
     enum_count = first_read s _ (head 2 s (at + 1)) (enum_reads o r p)
 
-    module _ (n i : ℕ) (c : Of n i ≡ count_of (head 2 s (at + 1))) where
+    module _ (n i : ℕ) (c : Ok (n, i) ≡ count_of (head 2 s (at + 1))) where
       pub tag_read : Reads (read_expr (d - 1) s i)
       tag_read = tag_reads (read_expr (d - 1)) (read_ty (d - 1)) s (at + 1) n i c (enum_reads o r p)
 
-      pub enum_parts : (j : ℕ) → Next j ≡ step_of (read_expr (d - 1) s i) → EnumParts d s at n i j
+      pub enum_parts : (j : ℕ) → Ok j ≡ step_of (read_expr (d - 1) s i) → EnumParts d s at n i j
       enum_parts j g =
           let w = count_where (at + 1) n i s c in
           record {
@@ -145,11 +144,11 @@ module _ {d at : ℕ} {s : List ℕ} {f : Form} (o : Opened d at s f) (r : Reads
     unfolding read_array
     array_body = first_read s _ (array_head s (at + 1)) (array_reads o r p)
 
-    module _ (i : ℕ) (c : Next i ≡ step_of (array_head s (at + 1))) where
+    module _ (i : ℕ) (c : Ok i ≡ step_of (array_head s (at + 1))) where
       pub size_read : Reads (read_expr (d - 1) s i)
       size_read = size_reads (read_expr (d - 1)) (read_ty (d - 1)) s (at + 1) i c (array_reads o r p)
 
-      pub array_parts : (j : ℕ) → Next j ≡ step_of (read_expr (d - 1) s i) → ArrayParts d s at i j
+      pub array_parts : (j : ℕ) → Ok j ≡ step_of (read_expr (d - 1) s i) → ArrayParts d s at i j
       array_parts j g =
           let w = array_where (at + 1) i s c in
           let flag : (value_or zero_head (array_head s (at + 1))).last ≡ get_or s (at + 10) 0 = (array_last s (at + 1) array_body).0 ∙ ap (λ k. get_or s k 0) (omega arith) in
@@ -169,13 +168,13 @@ pub record EnumAt (d : ℕ) (s : List ℕ) (at : ℕ) : Type 0 where
   pub n : ℕ
   pub i : ℕ
   pub j : ℕ
-  pub tag : Next j ≡ step_of (read_expr (d - 1) s i)
+  pub tag : Ok j ≡ step_of (read_expr (d - 1) s i)
   pub parts : EnumParts d s at n i j
 
 pub record ArrayAt (d : ℕ) (s : List ℕ) (at : ℕ) : Type 0 where
   pub i : ℕ
   pub j : ℕ
-  pub size : Next j ≡ step_of (read_expr (d - 1) s i)
+  pub size : Ok j ≡ step_of (read_expr (d - 1) s i)
   pub parts : ArrayParts d s at i j
 
 module _ {d at : ℕ} {s : List ℕ} {f : Form} (o : Opened d at s f) (r : Reads (read_ty d s at)) where
@@ -199,7 +198,7 @@ module _ (d k : ℕ) (s : List ℕ) (n at : ℕ) (h : 0 < n) (r : Reads (read_me
   own_reads = first_read s _ (member_head k s at) (many_first more none (read_member (read_ty d) k) s (member 0 0 (primitive 0)) n at h r)
 
   -- its type stands at i and ended at j
-  pub others_end : (i j : ℕ) → Next i ≡ step_of (member_head k s at) → Next j ≡ step_of (read_ty d s i)
+  pub others_end : (i j : ℕ) → Ok i ≡ step_of (member_head k s at) → Ok j ≡ step_of (read_ty d s i)
       → step_of (read_members (read_ty d) k n s at) ≡ step_of (read_members (read_ty d) k (n - 1) s j)
   others_end i j e g = many_more more none (read_member (read_ty d) k) s n at j h (member_ends d k s n at h r i e j g)
 

@@ -8,6 +8,8 @@ ghost use Rattle.meaning.specs.ReadType.{head, array_head, member_head, read_ty,
 ghost use Rattle.meaning.specs.Reader.{little};
 ghost use Rattle.bundle.specs.View.{form_meant, operands_of, step_of, count_of};
 
+use refusal::Refusal;
+
 // What an expression's kind byte fixes: its body and what follows. A literal has its body length, a field reference its
 // count of names.
 #[derive(Clone, Copy)]
@@ -60,20 +62,6 @@ pub enum Form {
     Unknown,
 }
 
-// The end of one record, or the number of the first fault in it.
-#[derive(Clone, Copy)]
-pub enum Step {
-    Next(usize),
-    Refused(u8),
-}
-
-// The number of members of a struct, union or enum and the end of the body that has it, or the number of the fault in that body.
-#[derive(Clone, Copy)]
-pub enum Count {
-    Of(usize, usize),
-    Wrong(u8),
-}
-
 // The counts of a bundle, the position of its first edge and its current name.
 #[derive(Clone, Copy)]
 pub struct Layout {
@@ -81,20 +69,6 @@ pub struct Layout {
     pub edges: usize,
     pub edges_at: usize,
     pub current: u16,
-}
-
-// The layout of a bundle, or the number of the fault for which its bytes are refused.
-#[derive(Clone, Copy)]
-pub enum Opening {
-    Opened(Layout),
-    Refused(u8),
-}
-
-// The answer to a call: the length of its result, or the number of a refusal.
-#[derive(Clone, Copy)]
-pub enum Answer {
-    Accepted(usize),
-    Refused(u8),
 }
 
 // The limits of a bundle: its bytes, the counts of its header, and the levels of a definition's type.
@@ -173,14 +147,14 @@ pub fn form_of(kind: u8) -> Form
 }
 
 // The end of the n bytes that are due at `at`.
-pub fn skip_bytes(s: &[u8], at: usize, n: usize) -> Step
+pub fn skip_bytes(s: &[u8], at: usize, n: usize) -> Result<usize, Refusal>
     requires { at ≤ length s.now }
     ensures { result ≡ step_of (body n s.now at) }
 {
     if n <= s.len() - at {
-        Step::Next(at + n)
+        Ok(at + n)
     } else {
-        Step::Refused(2)
+        Err(Refusal::Short)
     }
 }
 
@@ -206,7 +180,7 @@ fn operands_of(form: Form) -> Operands
 //
 // A slice is handed on by its address. The call gets a slice of its own, `&s[..]`, so that `s` itself stays in registers; so does
 // the call in `member_at`.
-pub fn expr_at(s: &[u8], at: usize, depth: usize) -> Step
+pub fn expr_at(s: &[u8], at: usize, depth: usize) -> Result<usize, Refusal>
     ensures { result ≡ step_of (read_expr depth s.now at) }
 {
     let mut due = [0u8; 32];
@@ -215,7 +189,7 @@ pub fn expr_at(s: &[u8], at: usize, depth: usize) -> Step
     let mut next = at;
     while 0 < level {
         if s.len() <= next {
-            return Step::Refused(2);
+            return Err(Refusal::Short);
         }
         let operands = operands_of(form_of(s[next]));
         next += 1;
@@ -223,11 +197,11 @@ pub fn expr_at(s: &[u8], at: usize, depth: usize) -> Step
         match operands {
             Operands::None(w) => {
                 if s.len() - next < w {
-                    return Step::Refused(2);
+                    return Err(Refusal::Short);
                 }
                 next += w;
                 if n == 0 {
-                    return Step::Next(next);
+                    return Ok(next);
                 }
                 n -= 1;
                 level = due[n] as usize;
@@ -238,17 +212,13 @@ pub fn expr_at(s: &[u8], at: usize, depth: usize) -> Step
                     due[n] = level as u8;
                     n += 1;
                 } else {
-                    let left = expr_at(&s[..], next, level);
-                    match left {
-                        Step::Next(after) => next = after,
-                        Step::Refused(k) => return Step::Refused(k),
-                    }
+                    next = expr_at(&s[..], next, level)?;
                 }
             }
-            Operands::Unknown => return Step::Refused(3),
+            Operands::Unknown => return Err(Refusal::WrongKind),
         }
     }
-    Step::Refused(6)
+    Err(Refusal::TooDeep)
 }
 
 // The number in the two bytes at `at`.
@@ -256,178 +226,137 @@ pub fn u16_at(s: &[u8], at: usize) -> u16
     requires { at + 2 ≤ length s.now }
     ensures { result ≡ little s.now at 2 }
 {
-    s[at] as u16 + 256 * (s[at + 1] as u16)
+    u16::from_le_bytes([s[at], s[at + 1]])
 }
 
 // The member count in the body of a struct, union or enum.
-pub fn count_at(s: &[u8], at: usize) -> Count
+pub fn count_at(s: &[u8], at: usize) -> Result<(usize, usize), Refusal>
     requires { at ≤ length s.now }
     ensures { result ≡ count_of (head 2 s.now at) }
 {
     if s.len() - at < 11 {
-        return Count::Wrong(2);
+        return Err(Refusal::Short);
     }
     if 1 < s[at] {
-        return Count::Wrong(4);
+        return Err(Refusal::WrongValue);
     }
     let n = u16_at(s, at + 9);
-    Count::Of(n as usize, at + 11)
+    Ok((n as usize, at + 11))
 }
 
 // The end of an array's body.
-fn array_head_at(s: &[u8], at: usize) -> Step
+fn array_head_at(s: &[u8], at: usize) -> Result<usize, Refusal>
     requires { at ≤ length s.now }
     ensures { result ≡ step_of (array_head s.now at) }
 {
     if s.len() - at < 10 {
-        return Step::Refused(2);
+        return Err(Refusal::Short);
     }
     if 1 < s[at] {
-        return Step::Refused(4);
+        return Err(Refusal::WrongValue);
     }
     if 1 < s[at + 9] {
-        return Step::Refused(4);
+        return Err(Refusal::WrongValue);
     }
-    Step::Next(at + 10)
+    Ok(at + 10)
 }
 
 // The end of a member's own record, whose kind must be `kind`, of this form.
-pub fn member_head_at(s: &[u8], at: usize, kind: u8, form: Form) -> Step
+pub fn member_head_at(s: &[u8], at: usize, kind: u8, form: Form) -> Result<usize, Refusal>
     requires { form_meant form ≡ form_of kind }
     ensures { result ≡ step_of (member_head kind s.now at) }
 {
     if s.len() <= at {
-        return Step::Refused(2);
+        return Err(Refusal::Short);
     }
     if s[at] != kind {
-        return Step::Refused(3);
+        return Err(Refusal::WrongKind);
     }
     let Form::OfMember(w) = form else {
-        return Step::Refused(3);
+        return Err(Refusal::WrongKind);
     };
     skip_bytes(s, at + 1, 2 + (w as usize))
 }
 
-// The same step. Where a function returns the step of a call, the compiled code stores it in parts and loads it whole, and waits for
-// the stores; a step that is made anew stays in registers.
-fn rebuilt(step: Step) -> Step
-    ensures { result ≡ step }
-{
-    match step {
-        Step::Next(n) => Step::Next(n),
-        Step::Refused(k) => Step::Refused(k),
-    }
-}
-
 // The end of the type at `at`, where `depth` levels are left.
 #[cycle(types)]
-pub fn type_at(s: &[u8], at: usize, depth: usize) -> Step
+pub fn type_at(s: &[u8], at: usize, depth: usize) -> Result<usize, Refusal>
     ensures { result ≡ step_of (read_ty depth s.now at) }
 {
     if depth == 0 {
-        return Step::Refused(6);
+        return Err(Refusal::TooDeep);
     }
     if s.len() <= at {
-        return Step::Refused(2);
+        return Err(Refusal::Short);
     }
     let kind = s[at];
     let form = form_of(kind);
     let Form::OfType(t) = form else {
-        return Step::Refused(3);
+        return Err(Refusal::WrongKind);
     };
     let body = at + 1;
     match t {
-        TypeForm::Primitive => Step::Next(body),
+        TypeForm::Primitive => Ok(body),
         TypeForm::TypeRef => skip_bytes(s, body, 2),
-        TypeForm::Struct => rebuilt(group_at(s, body, depth - 1, 0x50)),
-        TypeForm::Union => rebuilt(group_at(s, body, depth - 1, 0x51)),
-        TypeForm::Enum => rebuilt(enum_at(s, body, depth - 1)),
-        TypeForm::Array => rebuilt(array_at(s, body, depth - 1)),
-        TypeForm::SizeUnion => rebuilt(group_at(s, body, depth - 1, 0x53)),
+        TypeForm::Struct => group_at(s, body, depth - 1, 0x50),
+        TypeForm::Union => group_at(s, body, depth - 1, 0x51),
+        TypeForm::Enum => enum_at(s, body, depth - 1),
+        TypeForm::Array => array_at(s, body, depth - 1),
+        TypeForm::SizeUnion => group_at(s, body, depth - 1, 0x53),
     }
 }
 
 // The end of the struct or union whose body is at `at` and whose members are of kind `kind`; `depth` is for the types inside.
 #[cycle(types)]
-fn group_at(s: &[u8], at: usize, depth: usize, kind: u8) -> Step
+fn group_at(s: &[u8], at: usize, depth: usize, kind: u8) -> Result<usize, Refusal>
     requires { at ≤ length s.now }
     ensures { result ≡ step_of (read_group (read_ty depth) kind s.now at) }
 {
-    let count = count_at(s, at);
-    match count {
-        Count::Of(n, next) => rebuilt(members_at(s, next, depth, kind, n)),
-        Count::Wrong(k) => Step::Refused(k),
-    }
+    let (n, next) = count_at(s, at)?;
+    members_at(s, next, depth, kind, n)
 }
 
 // The end of the enum whose body is at `at`; `depth` is for what is inside.
 #[cycle(types)]
-fn enum_at(s: &[u8], at: usize, depth: usize) -> Step
+fn enum_at(s: &[u8], at: usize, depth: usize) -> Result<usize, Refusal>
     requires { at ≤ length s.now }
     ensures { result ≡ step_of (read_enum (read_expr depth) (read_ty depth) s.now at) }
 {
-    let count = count_at(s, at);
-    match count {
-        Count::Of(n, next) => {
-            let tag = expr_at(s, next, depth);
-            match tag {
-                Step::Next(after) => rebuilt(members_at(s, after, depth, 0x52, n)),
-                Step::Refused(k) => Step::Refused(k),
-            }
-        }
-        Count::Wrong(k) => Step::Refused(k),
-    }
+    let (n, next) = count_at(s, at)?;
+    let after = expr_at(s, next, depth)?;
+    members_at(s, after, depth, 0x52, n)
 }
 
 // The end of the array whose body is at `at`; `depth` is for what is inside.
 #[cycle(types)]
-fn array_at(s: &[u8], at: usize, depth: usize) -> Step
+fn array_at(s: &[u8], at: usize, depth: usize) -> Result<usize, Refusal>
     requires { at ≤ length s.now }
     ensures { result ≡ step_of (read_array (read_expr depth) (read_ty depth) s.now at) }
 {
-    let head = array_head_at(s, at);
-    match head {
-        Step::Next(next) => {
-            let size = expr_at(s, next, depth);
-            match size {
-                Step::Next(after) => rebuilt(type_at(s, after, depth)),
-                Step::Refused(k) => Step::Refused(k),
-            }
-        }
-        Step::Refused(k) => Step::Refused(k),
-    }
+    let next = array_head_at(s, at)?;
+    let after = expr_at(s, next, depth)?;
+    type_at(s, after, depth)
 }
 
 // The end of the member at `at`, whose kind must be `kind`, of this form.
 #[cycle(types)]
-fn member_at(s: &[u8], at: usize, depth: usize, kind: u8, form: Form) -> Step
+fn member_at(s: &[u8], at: usize, depth: usize, kind: u8, form: Form) -> Result<usize, Refusal>
     requires { form_meant form ≡ form_of kind }
     ensures { result ≡ step_of (read_member (read_ty depth) kind s.now at) }
 {
-    let head = member_head_at(s, at, kind, form);
-    match head {
-        Step::Next(next) => rebuilt(type_at(&s[..], next, depth)),
-        Step::Refused(k) => Step::Refused(k),
-    }
+    let next = member_head_at(s, at, kind, form)?;
+    type_at(&s[..], next, depth)
 }
 
 // The end of the `count` members at `at`.
 #[cycle(types)]
-fn members_at(s: &[u8], at: usize, depth: usize, kind: u8, count: usize) -> Step
+fn members_at(s: &[u8], at: usize, depth: usize, kind: u8, count: usize) -> Result<usize, Refusal>
     ensures { result ≡ step_of (read_members (read_ty depth) kind count s.now at) }
 {
     let form = form_of(kind);
     let mut next = at;
-    let mut left = count;
-    while 0 < left {
-        let step = member_at(s, next, depth, kind, form);
-        match step {
-            Step::Next(after) => {
-                next = after;
-                left -= 1;
-            }
-            Step::Refused(k) => return Step::Refused(k),
-        }
+    for _ in 0..count {
+        next = member_at(s, next, depth, kind, form)?;
     }
-    Step::Next(next)
+    Ok(next)
 }

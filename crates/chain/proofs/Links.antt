@@ -12,7 +12,6 @@ use native.Mathlib.Decide.{ℕ_discrete}
 use lib.ListN.{length, length-set, set}
 use lib.Seq.{get_or-set_same, get_or-set_other}
 use Rattle.meaning.specs.Chain.{Graph}
-use Rattle.table.specs.Table.{Filled}
 use Rattle.chain.specs.Index.{to_in, link_in, first_in, Same, Cleared, Tied, NextTo, Linked, Linking}
 
 same_refl : (count : ℕ) (edges : List ℕ) → Same count edges edges
@@ -34,17 +33,6 @@ same_first {count} x v l = same_store (3 * count + 1 + x) v (omega arith) (λ e 
 
 same_link : {count : ℕ} {edges edges' : List ℕ} (e v : ℕ) → e < count → Same count edges edges' → Same count edges (set edges' (3 * e + 3) v)
 same_link e v l = same_store (3 * e + 3) v (omega arith) (λ d k q. omega arith) (λ d k q. omega arith)
-
-pub cleared : {count : ℕ} {edges edges' : List ℕ} → Filled (3 * count + 1) (2 * count) count (2 * count) edges edges' → Cleared count (2 * count) edges' × Same count edges edges'
-cleared f = (
-  f.each,
-  record {
-    froms = λ e l. f.only.before (3 * e + 1) (omega arith);
-    tos = λ e l. f.only.before (3 * e + 2) (omega arith);
-    table = λ i l. f.only.behind i (omega arith);
-    size = f.only.size;
-  },
-)
 
 pub linking_none : {count : ℕ} {edges : List ℕ} → Cleared count (2 * count) edges → Linking count edges count edges
 linking_none {count} {edges} c =

@@ -4,7 +4,7 @@
 --     numbering_none      before the first name
 --     numbering_more      one end of an edge more
 --     tied, prepared      what the edges' ends are, and all that `prepare` makes
-use Prim.Native.Nat.{ℕ, zero, suc, ◌+◌, ◌-◌, ◌*◌, ◌/◌, ◌%◌, ◌≤◌, ◌<◌}
+use Prim.Native.Nat.{ℕ, ◌+◌, ◌-◌, ◌*◌, ◌/◌, ◌%◌, max, ◌≤◌, ◌<◌}
 use mathlib.Core.Path.{◌≡◌, refl, sym, ap, ◌∙◌, subst}
 use mathlib.Core.Logic.{by_cases}
 use mathlib.Core.List.{List}
@@ -16,7 +16,12 @@ use lib.ListN.{length, length-set, get_or, set}
 use lib.Seq.{get_or-set_same, get_or-set_other}
 use Rattle.meaning.specs.Reader.{little}
 use Rattle.table.specs.Table.{Last, Members, Entered, grown}
-use Rattle.chain.specs.Edges.{graph_at, turned, end_at, name_at}
+use Rattle.meaning.specs.Chain.{Graph}
+use Rattle.chain.specs.Edges.{graph_at, turn_of, turned, end_at, name_at}
+use Rattle.chain.specs.declared.Direction.{Direction}
+use Rattle.chain.specs.declared.Direction.TheVariants.{Forth, Back}
+use Rattle.chain.specs.contracts.Direction.{the_type}
+use denote.Enum.Declared.{tag_of}
 use Rattle.chain.specs.Index.{names_in, name_in, from_in, to_in, end_in, Named, Numbering, Same, Tied, Linking, Prepared}
 use Rattle.chain.proofs.Links.{linked_same}
 
@@ -47,80 +52,79 @@ pub numbering_none : (bytes : List ℕ) (at turn : ℕ) {count : ℕ} {edges : L
 numbering_none bytes at turn l m = record { members = m; few = omega arith; ends = λ i a. absurd (omega arith); size = l }
 
 -- one member, or as many, and the place is among them
-grown_by : (n r : ℕ) → r ≤ n → (n ≤ grown n r) × (r < grown n r) × (grown n r ≤ n + 1)
-grown_by n r l =
-    by_cases (ℕ_discrete r n) (λ (p : r ≡ n). rw (eq-eqb r n p) (omega arith, omega arith, omega arith))
-    (λ (p : ¬ (r ≡ n)). rw (ne_eqb r n p) (omega arith, omega arith, omega arith))
+grown_max : (n r : ℕ) → r ≤ n → grown n r ≡ max n (r + 1)
+grown_max n r l =
+    by_cases (ℕ_discrete r n) (λ (p : r ≡ n). rw (eq-eqb r n p) (omega arith))
+    (λ (p : ¬ (r ≡ n)). rw (ne_eqb r n p) (omega arith))
 
 -- no two ends have one place
 place_apart : (i j : ℕ) → 3 * (j / 2) + j % 2 + 1 ≡ 3 * (i / 2) + i % 2 + 1 → j ≡ i
 place_apart i j e = omega arith
 
 pub numbering_more : {bytes : List ℕ} {at turn i count : ℕ} {edges : List ℕ} {m x r k : ℕ} {edges' : List ℕ}
-    → Numbering bytes at turn i count edges m → i < 2 * count → x ≡ end_at bytes at turn i → Entered edges (5 * count + 1) 256 m x r edges' → k ≡ grown m r
+    → Numbering bytes at turn i count edges m → i < 2 * count → x ≡ end_at bytes at turn i → Entered edges (5 * count + 1) 256 m x r edges' → k ≡ max m (r + 1)
     → Numbering bytes at turn (i + 1) count (set edges' (3 * (i / 2) + i % 2 + 1) r) k
-numbering_more {bytes} {at} {turn} {i} {count} {edges} {m} {x} {r} {edges' = edges'} s l is e p =
-    rw p
-    (record {
-      members = members_kept e.all (λ j a. table j (omega arith)) (length-set edges' place r);
-      few = omega (arith, g.2, s.few);
+numbering_more {bytes} {at} {turn} {i} {count} {edges} {m} {x} {r} {k} {edges'} s l is e p =
+    record {
+      members = rw more (members_kept e.all (λ j a. table j (omega arith)) (length-set edges' place r));
+      few = omega (arith, s.few, e.within);
       ends = ends;
       size = omega (arith, length-set edges' place r, e.only.size, s.size);
-    })
+    }
   where
     place : ℕ
     place = 3 * (i / 2) + i % 2 + 1
 
-    g : (m ≤ grown m r) × (r < grown m r) × (grown m r ≤ m + 1)
-    g = grown_by m r e.within
+    more : k ≡ grown m r
+    more = p ∙ sym (grown_max m r e.within)
 
     table : (j : ℕ) → 5 * count < j → get_or (set edges' place r) j 0 ≡ get_or edges' j 0
     table j a = get_or-set_other edges' place j r 0 (λ q. omega arith)
 
-    ends : (j : ℕ) → j < i + 1 → Named count (set edges' place r) (grown m r) (end_in (set edges' place r) j) (end_at bytes at turn j)
+    ends : (j : ℕ) → j < i + 1 → Named count (set edges' place r) k (end_in (set edges' place r) j) (end_at bytes at turn j)
     ends j a =
         by_cases (ℕ_discrete j i)
         (λ (t : j ≡ i).
         rw (t, get_or-set_same edges' place r 0 (omega (arith, e.only.size, s.size)))
-        (g.1, table (5 * count + 1 + 256 + 2 * r) (omega arith) ∙ e.here ∙ is))
+        (omega arith, table (5 * count + 1 + 256 + 2 * r) (omega arith) ∙ e.here ∙ is))
         (λ (t : ¬ (j ≡ i)).
         let o = s.ends j (omega arith) in
         rw (get_or-set_other edges' place (3 * (j / 2) + j % 2 + 1) r 0 (λ q. t (place_apart i j q)), e.only.before (3 * (j / 2) + j % 2 + 1) (omega arith))
-        (omega (arith, o.0, g.0), table (5 * count + 1 + 256 + 2 * end_in edges j) (omega arith) ∙ e.old (end_in edges j) o.0 ∙ o.1))
+        (omega (arith, o.0), table (5 * count + 1 + 256 + 2 * end_in edges j) (omega arith) ∙ e.old (end_in edges j) o.0 ∙ o.1))
 
-module _ {bytes : List ℕ} {at turn count : ℕ} {edges : List ℕ} {m : ℕ} (one-turn : turn ≤ 1) (s : Numbering bytes at turn (2 * count) count edges m) where
-  end_of : (i : ℕ) → i < 2 * count → (p : ℕ) → 3 * (i / 2) + i % 2 + 1 ≡ p → (q : ℕ) → at + 6 * (i / 2) + 2 * ((i + turn) % 2) + 1 ≡ q → Named count edges m (get_or edges p 0) (name_at bytes q)
-  end_of i a p e q f =
+-- how often the edges are turned, as the code has it
+pub turn_is : (d : Direction) → tag_of the_type d ≡ turn_of d
+turn_is Forth = refl
+turn_is Back = refl
+
+module _ {bytes : List ℕ} {at count : ℕ} {edges : List ℕ} {m : ℕ} where
+  end_of : {turn : ℕ} → Numbering bytes at turn (2 * count) count edges m → (i : ℕ) → i < 2 * count → (p : ℕ) → 3 * (i / 2) + i % 2 + 1 ≡ p
+      → (q : ℕ) → at + 6 * (i / 2) + 2 * ((i + turn) % 2) + 1 ≡ q → Named count edges m (get_or edges p 0) (name_at bytes q)
+  end_of {turn} s i a p e q f =
       subst (λ (z : ℕ). Named count edges m (get_or edges p 0) (name_at bytes z)) f
       (subst (λ (z : ℕ). Named count edges m (get_or edges z 0) (end_at bytes at turn i)) e (s.ends i a))
 
-  from_of : (e : ℕ) → e < count → Named count edges m (from_in edges e) ((turned turn (graph_at bytes at count)).from e)
-  from_of e l = go turn refl
-    where
-      go : (t : ℕ) → turn ≡ t → Named count edges m (from_in edges e) ((turned t (graph_at bytes at count)).from e)
-      go zero p = end_of (2 * e) (omega arith) (3 * e + 1) (omega arith) (at + 6 * e + 1) (omega arith)
-      go (suc t) p = end_of (2 * e) (omega arith) (3 * e + 1) (omega arith) (at + 6 * e + 3) (omega arith)
+  from_of : (d : Direction) → Numbering bytes at (turn_of d) (2 * count) count edges m → (e : ℕ) → e < count
+      → Named count edges m (from_in edges e) ((turned (turn_of d) (graph_at bytes at count)).from e)
+  from_of Forth s e l = end_of s (2 * e) (omega arith) (3 * e + 1) (omega arith) (at + 6 * e + 1) (omega arith)
+  from_of Back s e l = end_of s (2 * e) (omega arith) (3 * e + 1) (omega arith) (at + 6 * e + 3) (omega arith)
 
-  to_of : (e : ℕ) → e < count → Named count edges m (to_in edges e) ((turned turn (graph_at bytes at count)).to e)
-  to_of e l = go turn refl
-    where
-      go : (t : ℕ) → turn ≡ t → Named count edges m (to_in edges e) ((turned t (graph_at bytes at count)).to e)
-      go zero p = end_of (2 * e + 1) (omega arith) (3 * e + 2) (omega arith) (at + 6 * e + 3) (omega arith)
-      go (suc t) p = end_of (2 * e + 1) (omega arith) (3 * e + 2) (omega arith) (at + 6 * e + 1) (omega arith)
+  to_of : (d : Direction) → Numbering bytes at (turn_of d) (2 * count) count edges m → (e : ℕ) → e < count
+      → Named count edges m (to_in edges e) ((turned (turn_of d) (graph_at bytes at count)).to e)
+  to_of Forth s e l = end_of s (2 * e + 1) (omega arith) (3 * e + 2) (omega arith) (at + 6 * e + 3) (omega arith)
+  to_of Back s e l = end_of s (2 * e + 1) (omega arith) (3 * e + 2) (omega arith) (at + 6 * e + 1) (omega arith)
 
-  same_count : (turned turn (graph_at bytes at count)).count ≡ count
-  same_count = go turn
-    where
-      go : (t : ℕ) → (turned t (graph_at bytes at count)).count ≡ count
-      go zero = refl
-      go (suc t) = refl
+same_count : (d : Direction) (g : Graph) → (turned (turn_of d) g).count ≡ g.count
+same_count Forth g = refl
+same_count Back g = refl
 
+module _ {bytes : List ℕ} {at count : ℕ} {edges : List ℕ} {m : ℕ} (d : Direction) (s : Numbering bytes at (turn_of d) (2 * count) count edges m) where
   pub tied : {edges' : List ℕ} → count ≤ 1024 → Same count edges edges' → Tied count edges'
   tied few same =
       record {
         few = few;
         room = omega (arith, s.size, same.size);
-        below = λ e l. rw (same.tos e l) (omega (arith, (to_of e l).0, s.few));
+        below = λ e l. rw (same.tos e l) (omega (arith, (to_of d s e l).0, s.few));
       }
 
   module _ {edges₁ edges₂ : List ℕ} (few : count ≤ 1024) (one : Same count edges edges₁) (two : Linking count edges₁ 0 edges₂) where
@@ -152,7 +156,7 @@ module _ {bytes : List ℕ} {at turn count : ℕ} {edges : List ℕ} {m : ℕ} (
     end_named : (x y name : ℕ) → x ≡ y → Named count edges m y name → (x < names_in last) × (name_in count last x ≡ name)
     end_named x y name e t = rw (e, number_of) (t.0, table (5 * count + 1 + 256 + 2 * y) (omega arith) ∙ t.1)
 
-    pub prepared : Prepared (turned turn (graph_at bytes at count)) count (set edges₂ 0 m)
+    pub prepared : Prepared (turned (turn_of d) (graph_at bytes at count)) count (set edges₂ 0 m)
     unfolding last
     prepared =
         record {
@@ -161,12 +165,12 @@ module _ {bytes : List ℕ} {at turn count : ℕ} {edges : List ℕ} {m : ℕ} (
             size = omega (arith, size, s.size);
             small = rw number_of s.few;
             members = rw number_of (members_kept s.members table size);
-            froms = λ e l. (end_named _ _ _ (froms e l) (from_of e l)).0;
-            tos = λ e l. (end_named _ _ _ (tos e l) (to_of e l)).0;
+            froms = λ e l. (end_named _ _ _ (froms e l) (from_of d s e l)).0;
+            tos = λ e l. (end_named _ _ _ (tos e l) (to_of d s e l)).0;
             linked = linked_same two.linked refl (λ e l. place (3 * e + 2) (omega arith) ∙ two.same.tos e l) (omega (arith, number_of, s.few))
-                (λ x l. place (3 * count + 1 + x) (omega arith)) (λ d l. place (3 * d + 3) (omega arith));
+                (λ x l. place (3 * count + 1 + x) (omega arith)) (λ c l. place (3 * c + 3) (omega arith));
           };
-          counted = same_count;
-          froms = λ e l. (end_named _ _ _ (froms e l) (from_of e l)).1;
-          tos = λ e l. (end_named _ _ _ (tos e l) (to_of e l)).1;
+          counted = same_count d (graph_at bytes at count);
+          froms = λ e l. (end_named _ _ _ (froms e l) (from_of d s e l)).1;
+          tos = λ e l. (end_named _ _ _ (tos e l) (to_of d s e l)).1;
         }

@@ -1,6 +1,8 @@
 -- The edges that stand in a bundle's bytes.
 use Rattle.std.specs.Prelude.{ℕ, zero, suc, ◌+◌, ◌*◌, ◌/◌, ◌%◌, ◌≤◌, List, length, get_or}
 use Rattle.meaning.specs.Chain.{Graph}
+use Rattle.chain.specs.declared.Direction.{Direction}
+use Rattle.chain.specs.declared.Direction.TheVariants.{Forth, Back}
 
 -- the name at place i, low byte first
 abbrev pub name_at : List ℕ → ℕ → ℕ
@@ -14,6 +16,11 @@ graph_at bytes at count = record { count = count; from = λ e. name_at bytes (at
 pub record HasEdges (bytes : List ℕ) (at count : ℕ) : Type 0 where
   pub few : count ≤ 1024
   pub lie : at + 6 * count ≤ length bytes
+
+-- how often the edges are turned
+abbrev pub turn_of : Direction → ℕ
+turn_of Forth = 0
+turn_of Back = 1
 
 -- the edges as they are, or each the other way round
 abbrev pub turned : ℕ → Graph → Graph

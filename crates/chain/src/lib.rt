@@ -4,12 +4,12 @@
 //     3 e + 1, + 2, + 3     of edge e: the number that it leads from, the number that it leads to, and the next edge that leads to the same
 //     3 count + 1 + x       of the number x: the first edge that leads to it
 //     5 count + 1 and on    the names, a table with `BUCKETS` buckets
-// The count stands where there is no such edge.
+// The count stands where there is no such edge: a number and no `Option`, in the caller's places of 16 bits (no heap, fixed memory).
+// No struct holds the places and the count: tried, with the ghost field `Indexed`, and a search took 7 parts in 100 longer.
 #![tactic(auto)]
 
 ghost use Rattle.std.specs.Prelude.{◌≡◌, ◌+◌, ◌*◌, ◌≤◌, ◌<◌, length};
-ghost use Rattle.table.specs.Table.{grown};
-ghost use Rattle.chain.specs.Edges.{graph_at, turned, HasEdges};
+ghost use Rattle.chain.specs.Edges.{graph_at, turn_of, turned, HasEdges};
 ghost use Rattle.chain.specs.Index.{Numbering, Same, Cleared, Tied, Linking, Prepared};
 
 // The buckets of the table of names.
@@ -23,39 +23,30 @@ pub const FEW_PLACES: usize = 9 * FEW_EDGES + BUCKETS + 1;
 
 pub const PLACES: usize = 9 * bundle::EDGES + BUCKETS + 1;
 
-// The answer to a search.
+// Which way prepared edges lead.
 #[derive(Clone, Copy)]
-pub enum Found {
-    // There is no chain.
-    Missing,
-    // The chain has so many names, which stand in the first places of the list.
-    Chain(usize),
-}
-
-// How many names there are once one of `n`, or one more, has the number `r`.
-fn grow(n: usize, r: usize) -> usize
-    requires { n < 65536 }
-    ensures { result ≡ grown n r }
-{
-    if r == n { n + 1 } else { n }
+pub enum Direction {
+    // As they are.
+    Forth,
+    // Each the other way round.
+    Back,
 }
 
 // Numbers the names of `count` edges, and writes the numbers of their ends. Returns how many names there are.
-fn number(bytes: &[u8], at: usize, count: usize, turn: usize, edges: &mut [u16]) -> usize
-    requires has_edges { HasEdges bytes.now at count × (turn ≤ 1) }
+fn number(bytes: &[u8], at: usize, count: usize, direction: Direction, edges: &mut [u16]) -> usize
+    requires has_edges { HasEdges bytes.now at count }
     requires count_in_bounds { 9 * count + 257 ≤ length edges.old }
-    ensures { Numbering bytes.now at turn (2 * count) count edges.new result }
+    ensures { Numbering bytes.now at (turn_of direction) (2 * count) count edges.new result }
 {
     let names = 5 * count + 1;
-    table::empty(edges, names, BUCKETS);
+    let turn = direction as usize;
+    table::empty::<BUCKETS>(edges, names);
     let mut m = 0;
-    let mut i = 0;
-    while i < 2 * count {
+    for i in 0..2 * count {
         let name = bundle::u16_at(bytes, at + 6 * (i / 2) + 2 * ((i + turn) % 2) + 1);
-        let r = table::enter(edges, names, BUCKETS, m, name);
-        m = grow(m, r);
+        let r = table::enter::<BUCKETS>(edges, names, m, name);
+        m = m.max(r + 1);
         edges[3 * (i / 2) + i % 2 + 1] = r as u16;
-        i += 1;
     }
     m
 }
@@ -65,7 +56,7 @@ fn clear(edges: &mut [u16], count: usize)
     requires { (5 * count < length edges.old) × (count ≤ 1024) }
     ensures { Cleared count (2 * count) edges.new × Same count edges.old edges.new }
 {
-    table::fill(edges, 3 * count + 1, 2 * count, count as u16);
+    edges[3 * count + 1..5 * count + 1].fill(count as u16);
 }
 
 // Links the edges that lead to each number, from the last edge to the first, so that the first stands at the head.
@@ -73,9 +64,7 @@ fn link(edges: &mut [u16], count: usize)
     requires { Tied count edges.old × Cleared count (2 * count) edges.old }
     ensures { Linking count edges.old 0 edges.new }
 {
-    let mut e = count;
-    while e != 0 {
-        e -= 1;
+    for e in (0..count).rev() {
         let to = edges[3 * e + 2] as usize;
         let first = 3 * count + 1 + to;
         edges[3 * e + 3] = edges[first];
@@ -83,14 +72,13 @@ fn link(edges: &mut [u16], count: usize)
     }
 }
 
-// Prepares `count` edges that stand in the bytes from `at` on for searches; where `turn` is 1, each leads the other way round. What the
-// slice holds before is free.
-pub fn prepare(bytes: &[u8], at: usize, count: usize, turn: usize, edges: &mut [u16])
-    requires has_edges { HasEdges bytes.now at count × (turn ≤ 1) }
+// Prepares `count` edges that stand in the bytes from `at` on for searches. What the slice holds before is free.
+pub fn prepare(bytes: &[u8], at: usize, count: usize, direction: Direction, edges: &mut [u16])
+    requires has_edges { HasEdges bytes.now at count }
     requires count_in_bounds { 9 * count + 257 ≤ length edges.old }
-    ensures { Prepared (turned turn (graph_at bytes.now at count)) count edges.new }
+    ensures { Prepared (turned (turn_of direction) (graph_at bytes.now at count)) count edges.new }
 {
-    let m = number(bytes, at, count, turn, edges);
+    let m = number(bytes, at, count, direction, edges);
     clear(edges, count);
     link(edges, count);
     edges[0] = m as u16;

@@ -7,15 +7,15 @@
 
 ghost use Rattle.std.specs.Prelude.{◌+◌, ◌*◌, ◌≤◌, length};
 
-use search_from::Listing;
+use refusal::Refusal;
+use search_from::Listed;
 use std::io;
 
 // Writes a number of two bytes, low byte first.
 fn put(s: &mut [u8], at: usize, x: u16)
     requires { at + 2 ≤ length s.old }
 {
-    s[at] = (x % 256) as u8;
-    s[at + 1] = (x / 256) as u8;
+    s[at..at + 2].copy_from_slice(&x.to_le_bytes());
 }
 
 // Writes the header of a bundle with no definition and so many edges.
@@ -43,44 +43,32 @@ fn path(s: &mut [u8], count: usize, apart: u16)
     requires { (count ≤ 1024) × (7 + 6 * count ≤ length s.old) }
 {
     header(s, count as u16);
-    let mut name = 0;
-    let mut i = 0;
-    while i < count {
-        let next = std::num::wrapping_add_u16(name, apart);
+    let mut name = 0u16;
+    for i in 0..count {
+        let next = name.wrapping_add(apart);
         edge(s, 7 + 6 * i, name, next);
         name = next;
-        i += 1;
     }
-}
-
-fn number(rt: &impl Print, x: u64) -> io::Result<()> {
-    print!(rt; "{x} ")
 }
 
 // The name at a place, or 0 behind the end.
 fn name_at(list: &[u16], i: usize) -> u16 {
-    if i < list.len() { list[i] } else { 0 }
+    list.get(i).copied().unwrap_or(0)
 }
 
 // Writes an answer, and the list that it left.
-fn tell(rt: &impl Print, answer: Listing, list: &[u16]) -> io::Result<()> {
+fn tell(rt: &impl Print, answer: Result<Listed, Refusal>, list: &[u16]) -> io::Result<()> {
     match answer {
-        Listing::Listed(n, followed) => {
-            number(rt, n as u64)?;
-            number(rt, followed as u64)?;
-            number(rt, name_at(list, 0) as u64)?;
+        Ok(listed) => {
+            let n = listed.names;
+            print!(rt; "{n} {} {} ", listed.followed, name_at(list, 0))?;
             if n != 0 {
-                number(rt, name_at(list, n - 1) as u64)?;
+                print!(rt; "{} ", name_at(list, n - 1))?;
             }
-            number(rt, name_at(list, n) as u64)?;
+            println!(rt; "{} ", name_at(list, n))
         }
-        Listing::Refused(k) => {
-            print!(rt; "refused ")?;
-            number(rt, k as u64)?;
-            number(rt, name_at(list, 0) as u64)?;
-        }
+        Err(refusal) => println!(rt; "refused {} {} ", u8::from(refusal), name_at(list, 0)),
     }
-    println!(rt)
 }
 
 // Looks for the chain in the bundle that the first `end` bytes are, with the first `size` places lent.
@@ -110,11 +98,7 @@ fn on_path(
 ) -> io::Result<()>
     requires { (count ≤ 1024) × (size ≤ 1026) }
 {
-    number(rt, count as u64)?;
-    number(rt, apart as u64)?;
-    number(rt, from as u64)?;
-    number(rt, to as u64)?;
-    number(rt, size as u64)?;
+    print!(rt; "{count} {apart} {from} {to} {size} ")?;
     let mut s = [0u8; 6151];
     path(&mut s, count, apart);
     let mut list = [7u16; 1026];

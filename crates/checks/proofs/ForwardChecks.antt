@@ -1,4 +1,5 @@
 -- References to fields of one struct: type 1, and the references of a run one by one.
+use Rattle.std.specs.Prelude.{Some, None}
 use Prim.Native.Nat.{ℕ, ◌+◌, ◌*◌}
 use native.Mathlib.Omega.{arith}
 use mathlib.Core.Bool.{Bool, true, false, not, ◌&&◌}
@@ -14,12 +15,8 @@ use Rattle.meaning.specs.Violations.{struct_of, stands_before, check_enum_forwar
 use Rattle.bundle.specs.Definitions.{bundle_of}
 use Rattle.sizes.specs.Scan.{path_at, references_from, found_of, Fits}
 use Rattle.sizes.proofs.PathLaws.{Split, split_fit, split_fits}
-use Rattle.sizes.specs.declared.Found.TheVariants.{Nothing}
-use Rattle.checks.specs.declared.Check.TheVariants as check
-use Rattle.checks.specs.declared.Part.TheVariants as part
-use Rattle.checks.specs.declared.Reference.{Reference}
-use Rattle.checks.specs.declared.Reference.TheVariants as reference
-use Rattle.checks.specs.Checks.{target_at, type_part, PartOf, Checked, ReferenceIs, Referred}
+use Rattle.checks.specs.declared.Finding.TheVariants.{EnumForward}
+use Rattle.checks.specs.Checks.{target_at, type_part, PartOf, Checked, ReferenceIs}
 
 -- a field part that is not one name equals no field's name
 pub no_field : (field : List ℕ) → (length field ≡ 1 → ⊥) → (n : ℕ) → is_field field n ≡ false
@@ -41,14 +38,14 @@ holds_no test h (some a) = h a
 
 -- type 1
 module _ (s : List ℕ) (p n x : ℕ) (e : x ≡ type_part s p) where
-  pub forward_part : PartOf (path_at s p) part.Other → (i : ℕ) → check_enum_forward_reference_in_same_struct (bundle_of s) i n (target_at s p) ≡ none
+  pub forward_part : PartOf (path_at s p) None → (i : ℕ) → check_enum_forward_reference_in_same_struct (bundle_of s) i n (target_at s p) ≡ none
   unfolding check_enum_forward_reference_in_same_struct
   forward_part g i =
       let field = (target_at s p).field in
       let no = holds_no (stands_before n field) (λ ms. ap (precedes (last_index _ ms)) (no_last field (g (bundle_of s).current) ms) ∙ precedes_none (last_index _ ms)) (struct_of (bundle_of s) (type_part s p)) in
       rw no
 
-  module _ (f : ℕ) (g : PartOf (path_at s p) (part.One f)) where
+  module _ (f : ℕ) (g : PartOf (path_at s p) (Some f)) where
     -- what type 1 asks
     abbrev asked : Bool
     asked = holds (stands_before n (f ∷ [])) (struct_of (bundle_of s) x) && not (holds is_enum_with_constant_size_variants (find_type (bundle_of s) n))
@@ -58,19 +55,12 @@ module _ (s : List ℕ) (p n x : ℕ) (e : x ≡ type_part s p) where
     forward_not h i = rw (g (bundle_of s).current, ← e, ← h)
 
     pub forward_is : (list : List ℕ) {list' : List ℕ} → true ≡ asked → list' ≡ x ∷ n ∷ f ∷ drop 3 list
-        → Checked s n list' (check.EnumForward x f) (λ i. check_enum_forward_reference_in_same_struct (bundle_of s) i n (target_at s p))
+        → Checked s n list' (Some (EnumForward x f)) (λ i. check_enum_forward_reference_in_same_struct (bundle_of s) i n (target_at s p))
     unfolding check_enum_forward_reference_in_same_struct
     forward_is list h w = record {
       means = λ i. rw (w, g (bundle_of s).current, ← e, ← h);
       fits = omega (arith, ap length w);
     }
-
--- an answer that a `let .. else` has taken apart
-pub reference_is : (s : List ℕ) (at end : ℕ) {r : Reference} {p after : ℕ} → r ≡ reference.At p after → Referred s at end r → ReferenceIs s at end p after
-reference_is s at end e g = subst (Referred s at end) e g
-
-pub reference_no : (s : List ℕ) (at end : ℕ) {r : Reference} → r ≡ reference.End → Referred s at end r → references_from s at end ≡ []
-reference_no s at end e g = subst (Referred s at end) e g
 
 -- what was found, and what was not
 pub referred : {s : List ℕ} {end at p n : ℕ} → Split s end at p → Fits s (references_from s at end) → n ≡ length (path_at s p) → ReferenceIs s at end p (p + 1 + 2 * n)
@@ -81,6 +71,6 @@ referred {s} {end} {at} {p} {n} g f e = record {
   fits = subst (λ k. Fits s (references_from s (p + 1 + 2 * k) end)) (sym e) (split_fits s end p g f);
 }
 
-pub referred_no : (ps : List ℕ) → Nothing ≡ found_of ps → ps ≡ []
+pub referred_no : (ps : List ℕ) → None ≡ found_of ps → ps ≡ []
 referred_no [] e = refl
 referred_no (p ∷ ps) e = let z : ◌≡◌ {A = ℕ} 0 1 = cc in absurd (omega arith)

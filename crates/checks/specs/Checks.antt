@@ -1,6 +1,6 @@
 -- What the answers of the checks stand for.
-use Rattle.std.specs.Prelude.{ℕ, ◌+◌, ◌≤◌, ◌<◌, List, [], ◌∷◌, ◌≡◌, length, take}
-use Rattle.std.proofs.Math.Option.{Option, none, some}
+use Rattle.std.specs.Prelude.{ℕ, ◌+◌, ◌≤◌, ◌<◌, List, [], ◌∷◌, ◌≡◌, length, take, Option, Some, None}
+use Rattle.std.proofs.Math.Option as option
 use Rattle.meaning.specs.Limits.{edge_limit}
 use Rattle.meaning.specs.Lookup.{Target, parse_field_reference}
 use Rattle.meaning.specs.Violations.{Violation, violation, enum_forward, enum_cycle, array_cycle, field_forward, variable_element, jagged_reference, jagged_inline, nested_jagged}
@@ -10,24 +10,24 @@ use Rattle.chain.specs.Edges.{graph_at}
 use Rattle.chain.specs.Index.{Prepared}
 use Rattle.sizes.specs.Paths.{Fit}
 use Rattle.sizes.specs.Scan.{path_at, references_from, Fits}
-use Rattle.checks.specs.declared.Check.{Check}
-use Rattle.checks.specs.declared.Check.TheVariants as check
-use Rattle.checks.specs.declared.Part.{Part}
-use Rattle.checks.specs.declared.Part.TheVariants as part
-use Rattle.checks.specs.declared.Reference.{Reference}
-use Rattle.checks.specs.declared.Reference.TheVariants as reference
+use Rattle.checks.specs.declared.Finding.{Finding}
+use Rattle.checks.specs.declared.Finding.TheVariants.{EnumForward, EnumCycle, ArrayCycle, FieldForward, VariableElement, JaggedReference, JaggedInline, NestedJagged}
 
 -- the violation of definition i of the name n in the bytes s, with the chain in the first places of the list
-abbrev pub violation_of : List ℕ → ℕ → ℕ → List ℕ → Check → Option Violation
-violation_of s i n list check.Fine = none
-violation_of s i n list (check.EnumForward t f) = some (violation enum_forward i n (t ∷ f ∷ []) (take 3 list))
-violation_of s i n list (check.EnumCycle p k) = some (violation enum_cycle i n (path_at s p) (take k list))
-violation_of s i n list (check.ArrayCycle p k) = some (violation array_cycle i n (path_at s p) (take k list))
-violation_of s i n list (check.FieldForward p) = some (violation field_forward i n (path_at s p) (take 3 list))
-violation_of s i n list check.VariableElement = some (violation variable_element i n [] (take 1 list))
-violation_of s i n list check.JaggedReference = some (violation jagged_reference i n [] (take 2 list))
-violation_of s i n list check.JaggedInline = some (violation jagged_inline i n [] (take 1 list))
-violation_of s i n list check.NestedJagged = some (violation nested_jagged i n [] (take 1 list))
+abbrev pub violation_found : List ℕ → ℕ → ℕ → List ℕ → Finding → Violation
+violation_found s i n list (EnumForward t f) = violation enum_forward i n (t ∷ f ∷ []) (take 3 list)
+violation_found s i n list (EnumCycle p k) = violation enum_cycle i n (path_at s p) (take k list)
+violation_found s i n list (ArrayCycle p k) = violation array_cycle i n (path_at s p) (take k list)
+violation_found s i n list (FieldForward p) = violation field_forward i n (path_at s p) (take 3 list)
+violation_found s i n list VariableElement = violation variable_element i n [] (take 1 list)
+violation_found s i n list JaggedReference = violation jagged_reference i n [] (take 2 list)
+violation_found s i n list JaggedInline = violation jagged_inline i n [] (take 1 list)
+violation_found s i n list NestedJagged = violation nested_jagged i n [] (take 1 list)
+
+-- it, where a check found one
+abbrev pub violation_of : List ℕ → ℕ → ℕ → List ℕ → Option Finding → option.Option Violation
+violation_of s i n list None = option.none
+violation_of s i n list (Some f) = option.some (violation_found s i n list f)
 
 -- a reference lies within the bytes, and a chain of k names within a list of so many places
 pub record Holds (s : List ℕ) (places p k : ℕ) : Type 0 where
@@ -35,20 +35,24 @@ pub record Holds (s : List ℕ) (places p k : ℕ) : Type 0 where
   pub short : k ≤ edge_limit + 1
   pub room : k ≤ places
 
--- the reference and the chain of the answer do
-abbrev pub Fitting : List ℕ → ℕ → Check → Type 0
-Fitting s places check.Fine = Unit {0}
-Fitting s places (check.EnumForward t f) = 3 ≤ places
-Fitting s places (check.EnumCycle p k) = Holds s places p k
-Fitting s places (check.ArrayCycle p k) = Holds s places p k
-Fitting s places (check.FieldForward p) = Holds s places p 3
-Fitting s places check.VariableElement = 3 ≤ places
-Fitting s places check.JaggedReference = 3 ≤ places
-Fitting s places check.JaggedInline = 3 ≤ places
-Fitting s places check.NestedJagged = 3 ≤ places
+-- the reference and the chain of what was found do
+abbrev pub FindingFits : List ℕ → ℕ → Finding → Type 0
+FindingFits s places (EnumForward t f) = 3 ≤ places
+FindingFits s places (EnumCycle p k) = Holds s places p k
+FindingFits s places (ArrayCycle p k) = Holds s places p k
+FindingFits s places (FieldForward p) = Holds s places p 3
+FindingFits s places VariableElement = 3 ≤ places
+FindingFits s places JaggedReference = 3 ≤ places
+FindingFits s places JaggedInline = 3 ≤ places
+FindingFits s places NestedJagged = 3 ≤ places
+
+-- they do, where something was found
+abbrev pub Fitting : List ℕ → ℕ → Option Finding → Type 0
+Fitting s places None = Unit {0}
+Fitting s places (Some f) = FindingFits s places f
 
 -- r is the answer where `o i` is what the check finds in definition i
-pub record Checked (s : List ℕ) (n : ℕ) (list : List ℕ) (r : Check) (o : ℕ → Option Violation) : Type 0 where
+pub record Checked (s : List ℕ) (n : ℕ) (list : List ℕ) (r : Option Finding) (o : ℕ → option.Option Violation) : Type 0 where
   pub means : (i : ℕ) → violation_of s i n list r ≡ o i
   pub fits : Fitting s (length list) r
 
@@ -61,9 +65,9 @@ abbrev pub type_part : List ℕ → ℕ → ℕ
 type_part s p = (target_at s p).type
 
 -- the field part of a path, whatever the current name is
-abbrev pub PartOf : List ℕ → Part → Type 0
-PartOf path (part.One f) = (current : ℕ) → (parse_field_reference current path).field ≡ f ∷ []
-PartOf path part.Other = (current : ℕ) → length (parse_field_reference current path).field ≡ 1 → ⊥
+abbrev pub PartOf : List ℕ → Option ℕ → Type 0
+PartOf path (Some f) = (current : ℕ) → (parse_field_reference current path).field ≡ f ∷ []
+PartOf path None = (current : ℕ) → length (parse_field_reference current path).field ≡ 1 → ⊥
 
 -- the layout has the edges and the current name of the bundle
 pub record GraphOf (s : List ℕ) (l : Layout) : Type 0 where
@@ -84,6 +88,6 @@ pub record ReferenceIs (s : List ℕ) (at end p after : ℕ) : Type 0 where
   pub fits : Fits s (references_from s after end)
 
 -- what is answered to a search for the first reference
-abbrev pub Referred : List ℕ → ℕ → ℕ → Reference → Type 0
-Referred s at end (reference.At p after) = ReferenceIs s at end p after
-Referred s at end reference.End = references_from s at end ≡ []
+abbrev pub Referred : List ℕ → ℕ → ℕ → Option (ℕ × ℕ) → Type 0
+Referred s at end (Some r) = ReferenceIs s at end r.0 r.1
+Referred s at end None = references_from s at end ≡ []

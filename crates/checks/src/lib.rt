@@ -14,12 +14,11 @@ ghost use Rattle.sizes.specs.Scan.{path_at, references_from, Fits};
 ghost use Rattle.sizes.specs.Tests.{Acyclic, Kept};
 ghost use Rattle.checks.specs.Checks.{PartOf, Checked, Referred};
 
-use fields::{Definition, Shape};
+use fields::Shape;
 
-// What a check finds: nothing, or a violation by its type. The chain stands beside it in a lent list.
+// A violation that a check finds, by its type. The chain stands beside it in a lent list.
 #[derive(Clone, Copy)]
-pub enum Check {
-    Fine,
+pub enum Finding {
     // Type 1: the struct and the field.
     EnumForward(u16, u16),
     // Types 2 and 3: where the reference is written, and the length of the chain.
@@ -39,50 +38,28 @@ pub fn set_chain(list: &mut [u16], a: u16, b: u16, c: u16)
     requires { 3 ≤ length list.old }
     ensures { list.new ≡ a ∷ b ∷ c ∷ drop 3 list.old }
 {
-    list[0] = a;
-    list[1] = b;
-    list[2] = c;
-}
-
-// The field part of a reference.
-#[derive(Clone, Copy)]
-pub enum Part {
-    One(u16),
-    Other,
+    list[..3].copy_from_slice(&[a, b, c]);
 }
 
 // The field part of the reference at `path`, if that is one name. A part of two or three names equals no field's name.
-pub fn field_part(s: &[u8], path: usize) -> Part
+pub fn field_part(s: &[u8], path: usize) -> Option<u16>
     requires { Fit s.now path }
     ensures { PartOf (path_at s.now path) result }
 {
-    let n = sizes::path_length(s, path);
-    if n == 0 {
-        return Part::Other;
+    match sizes::path_length(s, path) {
+        1 => Some(bundle::u16_at(s, path + 1)),
+        2 => Some(bundle::u16_at(s, path + 3)),
+        _ => None,
     }
-    if 2 < n {
-        return Part::Other;
-    }
-    Part::One(bundle::u16_at(s, path + 2 * n - 1))
 }
 
-// A field reference, and where the next record starts.
-#[derive(Clone, Copy)]
-pub enum Reference {
-    At(usize, usize),
-    End,
-}
-
-// The first field reference in the records from `at` to `end`.
-pub fn reference_at(s: &[u8], at: usize, end: usize) -> Reference
+// The first field reference in the records from `at` to `end`, and where the record behind it starts.
+pub fn reference_at(s: &[u8], at: usize, end: usize) -> Option<(usize, usize)>
     requires { (end ≤ length s.now) × (length s.now ≤ size_limit) × Fits s.now (references_from s.now at end) }
     ensures { Referred s.now at end result }
 {
-    let found = sizes::next_reference(s, at, end);
-    let sizes::Found::At(p) = found else {
-        return Reference::End;
-    };
-    Reference::At(p, p + 1 + 2 * sizes::path_length(s, p))
+    let p = sizes::next_reference(s, at, end)?;
+    Some((p, p + 1 + 2 * sizes::path_length(s, p)))
 }
 
 // Whether the first definition of the name is there and is no struct.
@@ -90,15 +67,14 @@ fn is_no_struct(s: &[u8], places: &[u16], count: usize, name: u16) -> bool
     requires { Table s.now count places.now }
     ensures { result ≡ holds (λ t. not (is_struct t)) (find_type (bundle_of s.now) name) }
 {
-    let found = fields::find_definition(s, places, count, name);
-    let Definition::At(_, at) = found else {
+    let Some(i) = lookup::definition_of(s, places, count, name) else {
         return false;
     };
-    let shape = fields::shape_at(s, at, bundle::DEPTH_LIMIT);
-    let Shape::Struct(_) = shape else {
-        return true;
-    };
-    false
+    let at = fields::place_of(s, places, count, i).at;
+    !matches!(
+        fields::shape_at(s, at, bundle::DEPTH_LIMIT),
+        Shape::Struct(_)
+    )
 }
 
 // Types 6 and 7, for the element at `at` of a jagged array.
@@ -109,31 +85,22 @@ fn check_jagged_element_kind(
     name: u16,
     at: usize,
     list: &mut [u16],
-) -> Check
+) -> Option<Finding>
     requires { Table s.now count places.now × Reads (read_ty 23 s.now at) × (3 ≤ length list.old) }
     ensures { Checked s.now name list.new result (λ i. check_jagged_element_kind (bundle_of s.now) i name (type_at 23 s.now at)) }
 {
-    let shape = fields::shape_at(s, at, bundle::DEPTH_INSIDE);
-    match shape {
-        Shape::Struct(_) => Check::Fine,
+    match fields::shape_at(s, at, bundle::DEPTH_INSIDE) {
+        Shape::Struct(_) => None,
         Shape::TypeRef(n) => {
             if !is_no_struct(s, places, count, n) {
-                return Check::Fine;
+                return None;
             }
             set_chain(list, name, n, 0);
-            Check::JaggedReference
+            Some(Finding::JaggedReference)
         }
-        Shape::Enum => {
+        _ => {
             set_chain(list, name, 0, 0);
-            Check::JaggedInline
-        }
-        Shape::Array(_) => {
-            set_chain(list, name, 0, 0);
-            Check::JaggedInline
-        }
-        Shape::Plain => {
-            set_chain(list, name, 0, 0);
-            Check::JaggedInline
+            Some(Finding::JaggedInline)
         }
     }
 }
@@ -143,24 +110,24 @@ fn check_jagged_array_constraints(
     s: &[u8],
     places: &[u16],
     count: usize,
-    nested: &mut [u8; bundle::DEFINITIONS],
+    nested: &mut [Option<bool>; bundle::DEFINITIONS],
     name: u16,
     at: usize,
     list: &mut [u16],
-) -> Check
+) -> Option<Finding>
     requires table { Table s.now count places.now × Reads (read_ty 23 s.now at) × (3 ≤ length list.old) }
     requires acyclic { Acyclic s.now × Kept s.now true nested.old }
     ensures { Checked s.now name list.new result (λ i. check_jagged_array_constraints (bundle_of s.now) i name (type_at 23 s.now at)) × Kept s.now true nested.new }
 {
     let kind = check_jagged_element_kind(s, places, count, name, at, list);
-    let Check::Fine = kind else {
+    if kind.is_some() {
         return kind;
-    };
+    }
     if !size_tests::type_contains_jagged_array(s, places, count, nested, at, bundle::DEPTH_INSIDE) {
-        return Check::Fine;
+        return None;
     }
     set_chain(list, name, 0, 0);
-    Check::NestedJagged
+    Some(Finding::NestedJagged)
 }
 
 // Types 5 to 8, for the element at `at` of an array whose jagged byte is `jagged`. `kept` has the size test's answers, and `nested`
@@ -169,13 +136,13 @@ pub fn check_array_element_type_size(
     s: &[u8],
     places: &[u16],
     count: usize,
-    kept: &mut [u8; bundle::DEFINITIONS],
-    nested: &mut [u8; bundle::DEFINITIONS],
+    kept: &mut [Option<bool>; bundle::DEFINITIONS],
+    nested: &mut [Option<bool>; bundle::DEFINITIONS],
     name: u16,
     jagged: u8,
     at: usize,
     list: &mut [u16],
-) -> Check
+) -> Option<Finding>
     requires table { Table s.now count places.now × Reads (read_ty 23 s.now at) × (3 ≤ length list.old) }
     requires acyclic { Acyclic s.now × Kept s.now false kept.old × Kept s.now true nested.old }
     ensures { Checked s.now name list.new result (λ i. check_array_element_type_size (bundle_of s.now) i name jagged (type_at 23 s.now at)) × Kept s.now false kept.new × Kept s.now true nested.new }
@@ -191,8 +158,8 @@ pub fn check_array_element_type_size(
         at,
         bundle::DEPTH_INSIDE,
     ) {
-        return Check::Fine;
+        return None;
     }
     set_chain(list, name, 0, 0);
-    Check::VariableElement
+    Some(Finding::VariableElement)
 }

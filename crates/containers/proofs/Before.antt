@@ -1,20 +1,20 @@
 -- An enum before a field of the first struct of a name, by what is kept and noted.
+use Rattle.std.specs.Prelude as code
 use Prim.Native.Nat.{ℕ}
 use mathlib.Core.Bool.{Bool, true, false, ◌&&◌}
 use mathlib.Core.List.{List, [], ◌∷◌}
 use mathlib.Core.Option.{Option, none, some}
-use mathlib.Core.Path.{◌≡◌, refl, sym, ap, ap₂, ◌∙◌}
+use mathlib.Core.Path.{◌≡◌, refl, ap, ◌∙◌}
 use lib.Dec.{ltb}
 use lib.ListN.{get_or}
-use Rattle.meaning.specs.Lists.{last_index, holds}
+use Rattle.meaning.specs.Lists.{last_index, holds, precedes}
 use Rattle.meaning.specs.Lookup.{as_struct, find_type}
 use Rattle.meaning.specs.Sizes.{is_enum_with_constant_size_variants}
 use Rattle.meaning.specs.Tree.{Ty, primitive, type_ref, struct, union, enum, array, size_union, Member}
 use Rattle.meaning.specs.Violations.{stands_before, struct_of}
-use Rattle.bundle.specs.Definitions.{type_at, bundle_of, Table}
+use Rattle.bundle.specs.Definitions.{type_at, bundle_of}
 use Rattle.fields.specs.Shapes.{DefinitionIs}
-use Rattle.fields.specs.Sought.{refers, named, shown}
-use Rattle.fields.proofs.Lookups.{definition_placed, precedes_zero, precedes_shown}
+use Rattle.fields.specs.Sought.{refers, named}
 use Rattle.field_index.specs.Noted.{struct_fields, fields_at, index_shown}
 use Rattle.containers.specs.Containers.{held_in, is_before}
 
@@ -36,38 +36,56 @@ and_true : (t : Bool) → t ≡ (t && true)
 and_true true = refl
 and_true false = refl
 
--- no field is a TypeRef to the enum, or its variants are of constant size
-pub before_zero : (s : List ℕ) (e x f : ℕ) {held : ℕ} → held ≡ held_in (bundle_of s) e x → held ≡ 0 → false ≡ is_before (bundle_of s) e x f
-before_zero s e x f {held} p z = go (holds is_enum_with_constant_size_variants (find_type (bundle_of s) e)) refl (struct_of (bundle_of s) x) refl
-  where
-    go : (c : Bool) → holds is_enum_with_constant_size_variants (find_type (bundle_of s) e) ≡ c → (o : Option (List Member)) → struct_of (bundle_of s) x ≡ o → false ≡ is_before (bundle_of s) e x f
-    go true q o g = rw q (and_false (holds (stands_before e (f ∷ [])) (struct_of (bundle_of s) x)))
-    go false q none g = rw (q, g) refl
-    go false q (some ms) g =
-        let zero : shown (last_index (refers e) ms) ≡ 0 = sym (p ∙ rw (q, g) refl) ∙ z in
-        rw (q, g) (precedes_zero (last_index (refers e) ms) (last_index (named f) ms) zero ∙ and_true (stands_before e (f ∷ []) ms))
+-- an index before another, as they are shown
+precedes_none : (o p : Option ℕ) → code.None ≡ index_shown o → false ≡ precedes o p
+precedes_none none p e = refl
+precedes_none (some i) p e = cc
 
--- there is no such struct
-pub before_no : (s : List ℕ) (e x f : ℕ) → struct_of (bundle_of s) x ≡ none → false ≡ is_before (bundle_of s) e x f
-before_no s e x f g = rw g refl
+precedes_no : (o p : Option ℕ) → code.None ≡ index_shown p → false ≡ precedes o p
+precedes_no none p e = refl
+precedes_no (some i) none e = refl
+precedes_no (some i) (some j) e = cc
 
--- the two indices are compared
-pub before_shown : {s : List ℕ} {n : ℕ} {places : List ℕ} → Table s n places → {x i at : ℕ} → DefinitionIs s n x i at → (e f held r : ℕ) → held ≡ held_in (bundle_of s) e x
-    → (held ≡ 0 → ⊥) → r ≡ index_shown true f (fields_at s places i) → ltb held r ≡ is_before (bundle_of s) e x f
-unfolding struct_of
-before_shown {s} {n} {places} t {x} {i} d e f held r p nz q =
-    go (holds is_enum_with_constant_size_variants (find_type (bundle_of s) e)) refl (as_struct (type_at 24 s (get_or places i 0))) refl
-  where
+precedes_shown : (o p : Option ℕ) {i j : ℕ} → code.Some i ≡ index_shown o → code.Some j ≡ index_shown p → ltb i j ≡ precedes o p
+precedes_shown none p e f = cc
+precedes_shown (some i) none e f = cc
+precedes_shown (some i) (some j) e f = cc
+
+module _ (s : List ℕ) (e x f : ℕ) where
+  -- no field is a TypeRef to the enum, or its variants are of constant size
+  pub before_none : code.None ≡ held_in (bundle_of s) e x → false ≡ is_before (bundle_of s) e x f
+  before_none p = go (holds is_enum_with_constant_size_variants (find_type (bundle_of s) e)) refl (struct_of (bundle_of s) x) refl
+    where
+      go : (c : Bool) → holds is_enum_with_constant_size_variants (find_type (bundle_of s) e) ≡ c → (o : Option (List Member)) → struct_of (bundle_of s) x ≡ o → false ≡ is_before (bundle_of s) e x f
+      go true q o g = rw q (and_false (holds (stands_before e (f ∷ [])) (struct_of (bundle_of s) x)))
+      go false q none g = rw (q, g) refl
+      go false q (some ms) g =
+          let z : code.None ≡ index_shown (last_index (refers e) ms) = p ∙ rw (q, g) refl in
+          rw (q, g) (precedes_none (last_index (refers e) ms) (last_index (named f) ms) z ∙ and_true (stands_before e (f ∷ []) ms))
+
+  -- there is no such struct
+  pub before_no : struct_of (bundle_of s) x ≡ none → false ≡ is_before (bundle_of s) e x f
+  before_no g = rw g refl
+
+  -- the two indices are compared
+  module _ {n : ℕ} (places : List ℕ) (i : ℕ) (d : DefinitionIs s n x i (get_or places i 0)) {held : ℕ} (p : code.Some held ≡ held_in (bundle_of s) e x) where
     the_struct : struct_of (bundle_of s) x ≡ as_struct (type_at 24 s (get_or places i 0))
-    the_struct = rw (definition_placed t d).is refl
+    unfolding struct_of
+    the_struct = rw d.is refl
 
-    go : (c : Bool) → holds is_enum_with_constant_size_variants (find_type (bundle_of s) e) ≡ c → (o : Option (List Member)) → as_struct (type_at 24 s (get_or places i 0)) ≡ o
-        → ltb held r ≡ is_before (bundle_of s) e x f
-    go true k o g = absurd (nz (p ∙ rw k refl))
-    go false k none g = absurd (nz (p ∙ rw (k, the_struct, g) refl))
-    go false k (some ms) g =
-        let same : fields_at s places i ≡ ms = the_fields (type_at 24 s (get_or places i 0)) ms g in
-        let h : held ≡ shown (last_index (refers e) ms) = p ∙ rw (k, the_struct, g) refl in
-        let m : r ≡ shown (last_index (named f) ms) = q ∙ ap (index_shown true f) same in
-        rw (k, the_struct, g)
-        (ap₂ ltb h m ∙ precedes_shown (last_index (refers e) ms) (last_index (named f) ms) (λ z. nz (h ∙ z)) ∙ and_true (stands_before e (f ∷ []) ms))
+    compared : {r : Bool} → ((ms : List Member) → code.Some held ≡ index_shown (last_index (refers e) ms) → fields_at s places i ≡ ms → r ≡ stands_before e (f ∷ []) ms) → r ≡ is_before (bundle_of s) e x f
+    compared {r} h = go (holds is_enum_with_constant_size_variants (find_type (bundle_of s) e)) refl (as_struct (type_at 24 s (get_or places i 0))) refl
+      where
+        go : (c : Bool) → holds is_enum_with_constant_size_variants (find_type (bundle_of s) e) ≡ c → (o : Option (List Member)) → as_struct (type_at 24 s (get_or places i 0)) ≡ o
+            → r ≡ is_before (bundle_of s) e x f
+        go true k o g = let z : code.Some held ≡ code.None = p ∙ rw k refl in cc
+        go false k none g = let z : code.Some held ≡ code.None = p ∙ rw (k, the_struct, g) refl in cc
+        go false k (some ms) g =
+            rw (k, the_struct, g)
+            (h ms (p ∙ rw (k, the_struct, g) refl) (the_fields (type_at 24 s (get_or places i 0)) ms g) ∙ and_true (stands_before e (f ∷ []) ms))
+
+    pub before_unnamed : code.None ≡ index_shown (last_index (named f) (fields_at s places i)) → false ≡ is_before (bundle_of s) e x f
+    before_unnamed q = compared (λ ms h same. precedes_no (last_index (refers e) ms) (last_index (named f) ms) (q ∙ ap (λ xs. index_shown (last_index (named f) xs)) same))
+
+    pub before_shown : {last : ℕ} → code.Some last ≡ index_shown (last_index (named f) (fields_at s places i)) → ltb held last ≡ is_before (bundle_of s) e x f
+    before_shown q = compared (λ ms h same. precedes_shown (last_index (refers e) ms) (last_index (named f) ms) h (q ∙ ap (λ xs. index_shown (last_index (named f) xs)) same))

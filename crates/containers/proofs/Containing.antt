@@ -1,7 +1,9 @@
 -- Whether a struct of a name holds an enum, by where its fields lead.
 --     last_held_lem                  the last field that is a TypeRef to the enum
---     contains_not, contains_is  one definition
+--     contains_is                    one definition
 --     containing_start, -here, -next, -end   the walk over the definitions
+use Rattle.std.specs.Prelude as code
+use Rattle.std.specs.Prelude.{is_some}
 use Prim.Native.Nat.{ℕ, suc, ◌+◌, ◌≤◌, ◌<◌, suc-le-suc}
 use native.Mathlib.Omega.{arith}
 use native.Mathlib.Decide.{ℕ_discrete}
@@ -12,8 +14,8 @@ use mathlib.Core.Option
 use mathlib.Core.Option.{Option, none as nothing, some}
 use mathlib.Core.Path.{◌≡◌, refl, sym, ap, ◌∙◌}
 use mathlib.Core.List.{List, [], ◌∷◌, map}
-use lib.Dec.{eqb, ltb}
-use borrow.Author.Tests.{lt-ltb, eq-eqb, ne_eqb, eqb-false}
+use lib.Dec.{eqb}
+use borrow.Author.Tests.{eq-eqb, ne_eqb, eqb-false}
 use lib.ListN.{length, length-map, get_or, drop, drop_of_length-le}
 use Rattle.names.specs.Names.{place}
 use Rattle.meaning.specs.Tree.{Member, Definition, Bundle}
@@ -24,8 +26,8 @@ use Rattle.bundle.specs.Definitions.{type_at, bundle_of, definition_at, Table}
 use Rattle.bundle.proofs.LookupLaws.{from_place, placed_at}
 use Rattle.fields.specs.declared.Place.{Place}
 use Rattle.fields.specs.Shapes.{PlacedAt}
-use Rattle.fields.specs.Sought.{refers, shown}
-use Rattle.field_index.specs.Noted.{lead_shown, lead_is, fields_at}
+use Rattle.fields.specs.Sought.{refers}
+use Rattle.field_index.specs.Noted.{index_shown, lead_shown, lead_is, fields_at}
 use Rattle.field_index.proofs.Order.{holds_fields}
 use Rattle.containers.specs.Containers.{LeadFor, holds_ref, contains_at}
 use Rattle.containers.proofs.Keeping.{same_name}
@@ -48,25 +50,22 @@ module _ {s : List ℕ} {e x : ℕ} (l : LeadFor s e x) where
   last_held_lem (m ∷ ms) = rw (last_held_lem ms, lead_refers (as_type_ref (member_type m))) refl
 
 -- some element passes exactly where there is a last one that does
-any_last : {A : Type 0} (p : A → Bool) (xs : List A) → any p xs ≡ ltb 0 (shown (last_index p xs))
+any_last : {A : Type 0} (p : A → Bool) (xs : List A) → any p xs ≡ is_some (index_shown (last_index p xs))
 any_last p [] = refl
 any_last p (x ∷ xs) = go (p x) (any p xs) (last_index p xs) (any_last p xs)
   where
-    go : (t u : Bool) (o : Option ℕ) → u ≡ ltb 0 (shown o) → (t || u) ≡ ltb 0 (shown (or_else (Option.map suc o) (cond t (some 0) nothing)))
+    go : (t u : Bool) (o : Option ℕ) → u ≡ is_some (index_shown o) → (t || u) ≡ is_some (index_shown (or_else (Option.map suc o) (cond t (some 0) nothing)))
     go true u nothing e = refl
-    go true u (some i) e = sym (lt-ltb 0 (suc (suc i)) (omega arith))
+    go true u (some i) e = refl
     go false u nothing e = e
-    go false u (some i) e = e ∙ lt-ltb 0 (suc i) (omega arith) ∙ sym (lt-ltb 0 (suc (suc i)) (omega arith))
+    go false u (some i) e = e
 
 -- definition i, whose last field that leads to the enum is known
 module _ {s places : List ℕ} {i e x y : ℕ} (l : LeadFor s e x) {p : Place} (g : PlacedAt s places i p) where
-  pub contains_not : (p.name ≡ y → ⊥) → false ≡ contains_at s places i e y
-  contains_not ne = rw (← g.name, ne_eqb p.name y ne) refl
-
-  pub contains_is : p.name ≡ y → {r : ℕ} → r ≡ shown (last_index (lead_is (bundle_of s) x) (fields_at s places i)) → ltb 0 r ≡ contains_at s places i e y
+  pub contains_is : p.name ≡ y → {r : code.Option ℕ} → r ≡ index_shown (last_index (lead_is (bundle_of s) x) (fields_at s places i)) → is_some r ≡ contains_at s places i e y
   contains_is q {r} h =
       rw (← g.name, eq-eqb p.name y q)
-      (ap (ltb 0) (h ∙ ap shown (last_held_lem l (fields_at s places i)))
+      (ap is_some (h ∙ ap index_shown (last_held_lem l (fields_at s places i)))
       ∙ sym (any_last (refers e) (fields_at s places i))
       ∙ sym (holds_fields (any (refers e)) refl (type_at 24 s (get_or places i 0))))
 

@@ -1,5 +1,5 @@
 -- The answers of an enum that are kept.
-use Prim.Native.Nat.{ℕ, ◌+◌, ◌<◌}
+use Prim.Native.Nat.{ℕ, ◌<◌}
 use native.Mathlib.Omega.{arith}
 use native.Mathlib.Decide.{ℕ_discrete}
 use mathlib.Core.Logic.{by_cases}
@@ -12,11 +12,7 @@ use Rattle.names.proofs.Place.{get_d_place}
 use Rattle.meaning.specs.Lookup.{definition_of}
 use Rattle.meaning.proofs.Lists.{get_d_zeros}
 use Rattle.bundle.specs.Definitions.{bundle_of, Table}
-use Rattle.containers.specs.Containers.{Defined, LeadFor, container_shown, Known}
-
--- the name of the enum is defined
-pub lead_for : {s : List ℕ} (e : ℕ) → Defined s e → {i : ℕ} → i ≡ definition_of (bundle_of s) e → LeadFor s e (i + 1)
-lead_for e d q = record { number = ap (λ i. i + 1) q; defined = d }
+use Rattle.containers.specs.Containers.{Defined, container_shown, kept_shown, Known}
 
 -- two names with one first definition are the same
 pub same_name : (xs : List ℕ) (x y : ℕ) → place xs x ≡ place xs y → place xs y < length xs → x ≡ y
@@ -26,10 +22,10 @@ module _ {s : List ℕ} {n : ℕ} {places : List ℕ} (t : Table s n places) {e 
   pub known_there : i < 256
   known_there = omega (arith, t.count, t.placed.room)
 
-  pub known_is : 0 < get_or known i 0 → get_or known i 0 ≡ container_shown (bundle_of s) e c
+  pub known_is : 0 < get_or known i 0 → get_or known i 0 ≡ kept_shown (container_shown (bundle_of s) e c)
   known_is l = k.each i known_there l c (sym d)
 
-  pub known_put : {v : ℕ} → v ≡ container_shown (bundle_of s) e c → Known s e (set known i v)
+  pub known_put : {v : ℕ} → v ≡ kept_shown (container_shown (bundle_of s) e c) → Known s e (set known i v)
   known_put {v} p =
       record {
         size = length-set known i v ∙ k.size;

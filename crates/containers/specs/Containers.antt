@@ -1,6 +1,6 @@
 -- What is kept of an enum and the names to which its tag refers.
-use Rattle.std.specs.Prelude.{ℕ, ◌+◌, ◌-◌, ◌<◌, Bool, not, cond, ◌&&◌, List, [], ◌∷◌, ◌≡◌, eqb, length, get_or}
-use Rattle.std.proofs.Math.Option.{Option, none, some}
+use Rattle.std.specs.Prelude.{ℕ, ◌+◌, ◌-◌, ◌<◌, Bool, not, cond, ◌&&◌, List, [], ◌∷◌, ◌≡◌, eqb, length, get_or, Option, Some, None, IfSome}
+use Rattle.std.proofs.Math.Option as option
 use Rattle.meaning.specs.Limits.{definition_limit}
 use Rattle.meaning.specs.Lists.{any, last_index, holds}
 use Rattle.meaning.specs.Lookup.{as_struct, definition_of, find_type, member_type, refers_to}
@@ -9,7 +9,8 @@ use Rattle.meaning.specs.Tree.{Ty, Member, Bundle}
 use Rattle.meaning.specs.Violations.{is_enum_referencing_same_container_struct, stands_before, struct_of}
 use Rattle.meaning.specs.Reader.{little}
 use Rattle.bundle.specs.Definitions.{type_at, bundle_of}
-use Rattle.fields.specs.Sought.{refers, shown}
+use Rattle.fields.specs.Sought.{refers}
+use Rattle.field_index.specs.Noted.{index_shown}
 
 -- the name e is defined
 abbrev pub Defined : List ℕ → ℕ → Type 0
@@ -28,18 +29,28 @@ holds_ref e t = holds (any (λ m. refers_to e (member_type m))) (as_struct t)
 abbrev pub contains_at : List ℕ → List ℕ → ℕ → ℕ → ℕ → Bool
 contains_at s places i e x = eqb (little s (get_or places i 0 - 2) 2) x && holds_ref e (type_at 24 s (get_or places i 0))
 
--- one more than the index of the last of a struct's fields that is a TypeRef to e, and 0 where there is none
-abbrev pub last_held : ℕ → Option (List Member) → ℕ
-last_held e none = 0
-last_held e (some ms) = shown (last_index (refers e) ms)
+-- the index of the last of a struct's fields that is a TypeRef to e, as the code shows it
+abbrev pub last_held : ℕ → option.Option (List Member) → Option ℕ
+last_held e option.none = None
+last_held e (option.some ms) = index_shown (last_index (refers e) ms)
 
--- the same of the first definition of the name x, if that is a struct, and 0 too where the variants of e are of constant size
-abbrev pub held_in : Bundle → ℕ → ℕ → ℕ
-held_in b e x = cond (holds is_enum_with_constant_size_variants (find_type b e)) 0 (last_held e (struct_of b x))
+-- the same of the first definition of the name x, if that is a struct, and None too where the variants of e are of constant size
+abbrev pub held_in : Bundle → ℕ → ℕ → Option ℕ
+held_in b e x = cond (holds is_enum_with_constant_size_variants (find_type b e)) None (last_held e (struct_of b x))
 
--- two more than that where some definition of the name x is a struct that holds e, and 1 where none is
-abbrev pub container_shown : Bundle → ℕ → ℕ → ℕ
-container_shown b e x = cond (is_enum_referencing_same_container_struct b e x) (held_in b e x + 2) 1
+-- that where some definition of the name x is a struct that holds e, and None where none is
+abbrev pub container_shown : Bundle → ℕ → ℕ → Option (Option ℕ)
+container_shown b e x = cond (is_enum_referencing_same_container_struct b e x) (Some (held_in b e x)) None
+
+-- how it is kept as a number
+abbrev pub kept_shown : Option (Option ℕ) → ℕ
+kept_shown None = 1
+kept_shown (Some None) = 2
+kept_shown (Some (Some k)) = k + 3
+
+-- the number has 16 bits
+abbrev pub Short : Option (Option ℕ) → Type 0
+Short o = IfSome o (λ held. IfSome held (λ k. k < 32768))
 
 -- what type 1 asks of the enum e and a reference to the field f of the first definition of the name x, if that is a struct
 abbrev pub is_before : Bundle → ℕ → ℕ → ℕ → Bool
@@ -49,4 +60,4 @@ is_before b e x f = holds (stands_before e (f ∷ [])) (struct_of b x) && not (h
 pub record Known (s : List ℕ) (e : ℕ) (known : List ℕ) : Type 0 where
   pub size : length known ≡ definition_limit
   pub defined : Defined s e
-  pub each : (i : ℕ) → i < definition_limit → 0 < get_or known i 0 → (x : ℕ) → definition_of (bundle_of s) x ≡ i → get_or known i 0 ≡ container_shown (bundle_of s) e x
+  pub each : (i : ℕ) → i < definition_limit → 0 < get_or known i 0 → (x : ℕ) → definition_of (bundle_of s) x ≡ i → get_or known i 0 ≡ kept_shown (container_shown (bundle_of s) e x)

@@ -18,9 +18,7 @@ ghost use Rattle.containers.specs.Containers.{held_in, Known};
 ghost use Rattle.checks.specs.Checks.{target_at, type_part, Checked, GraphOf, EdgesPrepared};
 
 use bundle::Layout;
-use chain::Found;
-use checks::{Check, Part};
-use fields::Definition;
+use checks::Finding;
 
 // The reference that is checked: the name of the definition that has it, where it is written, and whether its chain is wanted in the list.
 #[derive(Clone, Copy)]
@@ -40,7 +38,7 @@ fn find_layout_dependency_chain(
     wanted: bool,
     edges: &[u16],
     work: &mut [u16],
-) -> Found
+) -> Option<usize>
     requires { GraphOf s.now layout × EdgesPrepared s.now layout edges.now × Lent layout.edges edges.now to work.old }
     ensures { IfWanted wanted (list_in layout.edges work.new) (λ list. Answers (find_layout_dependency_chain (bundle_of s.now) from to) list result) × Lent layout.edges edges.now to work.new }
 {
@@ -52,25 +50,22 @@ fn check_enum_forward_reference_in_same_struct(
     s: &[u8],
     places: &[u16],
     count: usize,
-    held: usize,
+    held: Option<usize>,
     name: u16,
     container: u16,
     path: usize,
     list: &mut [u16],
-) -> Check
+) -> Option<Finding>
     requires table { Table s.now count places.now × (container ≡ type_part s.now path) × DefinitionsNoted s.now places.now count × (held ≡ held_in (bundle_of s.now) name container) }
     requires fit { Fit s.now path × (3 ≤ length list.old) }
     ensures { Checked s.now name list.new result (λ i. check_enum_forward_reference_in_same_struct (bundle_of s.now) i name (target_at s.now path)) }
 {
-    let part = checks::field_part(s, path);
-    let Part::One(field) = part else {
-        return Check::Fine;
-    };
+    let field = checks::field_part(s, path)?;
     if !containers::stands_before(s, places, count, held, container, field) {
-        return Check::Fine;
+        return None;
     }
     checks::set_chain(list, container, name, field);
-    Check::EnumForward(container, field)
+    Some(Finding::EnumForward(container, field))
 }
 
 // Whether the size of the first definition of the name depends on field references. `kept` has the size test's answers.
@@ -78,14 +73,13 @@ fn size_depends(
     s: &[u8],
     places: &[u16],
     count: usize,
-    kept: &mut [u8; bundle::DEFINITIONS],
+    kept: &mut [Option<bool>; bundle::DEFINITIONS],
     name: u16,
 ) -> bool
     requires { Table s.now count places.now × Acyclic s.now × Kept s.now false kept.old }
     ensures { (result ≡ holds (named_size_depends (bundle_of s.now)) (find_type (bundle_of s.now) name)) × Kept s.now false kept.new }
 {
-    let found = fields::find_definition(s, places, count, name);
-    let Definition::At(i, _) = found else {
+    let Some(i) = lookup::definition_of(s, places, count, name) else {
         return false;
     };
     size_tests::type_size_depends_on_field_refs(s, places, count, kept, i)
@@ -97,12 +91,12 @@ pub fn check_enum_tag_layout_cycle(
     s: &[u8],
     places: &[u16],
     layout: Layout,
-    kept: &mut [u8; bundle::DEFINITIONS],
+    kept: &mut [Option<bool>; bundle::DEFINITIONS],
     known: &mut [u16; bundle::DEFINITIONS],
     asked: Asked,
     edges: &[u16],
     work: &mut [u16],
-) -> Check
+) -> Option<Finding>
     requires edges_prepared { EdgesPrepared s.now layout edges.now × Lent layout.edges edges.now asked.name work.old × Fit s.now asked.path }
     requires layout_of { LayoutOf s.now layout places.now × Acyclic s.now × Kept s.now false kept.old × DefinitionsNoted s.now places.now layout.definitions × Known s.now asked.name known.old }
     ensures { IfWanted asked.wanted (list_in layout.edges work.new) (λ list. Checked s.now asked.name list result (λ i. check_enum_tag_layout_cycle (bundle_of s.now) i asked.name (path_at s.now asked.path))) × Kept s.now false kept.new × Lent layout.edges edges.now asked.name work.new × Known s.now asked.name known.new }
@@ -111,14 +105,13 @@ pub fn check_enum_tag_layout_cycle(
     let name = asked.name;
     let path = asked.path;
     let target = sizes::parse_field_reference(s, path, layout.current);
-    let container = containers::container_of(s, places, count, known, name, target.name);
-    if 1 < container {
+    if let Some(held) = containers::container_of(s, places, count, known, name, target.name) {
         let list = 6 * layout.edges + 3;
         return check_enum_forward_reference_in_same_struct(
             s,
             places,
             count,
-            container - 2,
+            held,
             name,
             target.name,
             path,
@@ -126,21 +119,10 @@ pub fn check_enum_tag_layout_cycle(
         );
     }
     if !size_depends(s, places, count, kept, name) {
-        return Check::Fine;
+        return None;
     }
-    let found = find_layout_dependency_chain(
-        s,
-        layout,
-        target.name,
-        name,
-        asked.wanted,
-        edges,
-        work,
-    );
-    match found {
-        Found::Missing => Check::Fine,
-        Found::Chain(n) => Check::EnumCycle(path, n),
-    }
+    let n = find_layout_dependency_chain(s, layout, target.name, name, asked.wanted, edges, work)?;
+    Some(Finding::EnumCycle(path, n))
 }
 
 // Type 3, for a reference of an array's size.
@@ -150,7 +132,7 @@ pub fn check_array_size_layout_cycle(
     asked: Asked,
     edges: &[u16],
     work: &mut [u16],
-) -> Check
+) -> Option<Finding>
     requires edges_prepared { EdgesPrepared s.now layout edges.now × Lent layout.edges edges.now asked.name work.old × Fit s.now asked.path }
     requires graph_of { GraphOf s.now layout }
     ensures { IfWanted asked.wanted (list_in layout.edges work.new) (λ list. Checked s.now asked.name list result (λ i. check_array_size_layout_cycle (bundle_of s.now) i asked.name (path_at s.now asked.path))) × Lent layout.edges edges.now asked.name work.new }
@@ -158,17 +140,6 @@ pub fn check_array_size_layout_cycle(
     let name = asked.name;
     let path = asked.path;
     let target = sizes::parse_field_reference(s, path, layout.current);
-    let found = find_layout_dependency_chain(
-        s,
-        layout,
-        target.name,
-        name,
-        asked.wanted,
-        edges,
-        work,
-    );
-    match found {
-        Found::Missing => Check::Fine,
-        Found::Chain(n) => Check::ArrayCycle(path, n),
-    }
+    let n = find_layout_dependency_chain(s, layout, target.name, name, asked.wanted, edges, work)?;
+    Some(Finding::ArrayCycle(path, n))
 }

@@ -67,6 +67,11 @@ line_length n = length-append (decimal n) (10 ∷ [])
 pub line_size : (k n : ℕ) → n < 10 ^ suc k → length (lines (n ∷ [])) ≤ suc (suc k)
 line_size k n h = omega (arith, decimal_size k n h, line_length n)
 
+-- the same by the count of digits
+pub line_within : (d n : ℕ) → 0 < d → n < 10 ^ d → length (lines (n ∷ [])) ≤ d + 1
+line_within zero n some h = absurd (omega arith)
+line_within (suc k) n some h = omega (arith, line_size k n h)
+
 pub lines_append : (ns ms : List ℕ) → lines (ns ++ ms) ≡ lines ns ++ lines ms
 unfolding lines
 lines_append [] ms = refl

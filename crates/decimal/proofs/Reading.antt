@@ -20,49 +20,37 @@ unfolding value_from
 value_grows v [] = omega arith
 value_grows v (c ∷ cs) = omega (arith, value_grows (10 * v + (c - 48)) cs)
 
+-- one digit more
+next_value : (word : List ℕ) (i : ℕ) → i < length word → value_from 0 (take (i + 1) word) ≡ 10 * value_from 0 (take i word) + (get_or word i 0 - 48)
+unfolding value_from
+next_value word i h = rw (add-one, take-suc word i 0 h, value_append)
+
 -- the first i bytes are digits with this value
 pub record Reading (word : List ℕ) (value i : ℕ) : Type 0 where
-  pub within : i ≤ length word
   pub digits : (k : ℕ) → k < i → IsDigit (get_or word k 0)
   pub number : value_from 0 (take i word) ≡ value
   pub small : value < 65536
 
 pub reading_start : (word : List ℕ) → Reading word 0 0
 unfolding value_from
-reading_start word = record { within = omega arith; digits = λ k h. absurd (omega arith); number = refl; small = omega arith }
+reading_start word = record { digits = λ k h. absurd (omega arith); number = refl; small = omega arith }
 
--- one digit more
-next_value : (word : List ℕ) (i : ℕ) → i < length word → value_from 0 (take (i + 1) word) ≡ 10 * value_from 0 (take i word) + (get_or word i 0 - 48)
-unfolding value_from
-next_value word i h = rw (add-one, take-suc word i 0 h, value_append)
+module _ {word : List ℕ} {value i : ℕ} (r : Reading word value i) where
+  pub reading_next : i < length word → IsDigit (get_or word i 0) → value * 10 + (get_or word i 0 - 48) < 65536 → Reading word (value * 10 + (get_or word i 0 - 48)) (i + 1)
+  reading_next more digit small = record { digits = below_more _ _ r.digits digit; number = omega (arith, next_value word i more, r.number); small = small }
 
-pub reading_next : {word : List ℕ} {value i : ℕ} → Reading word value i → i < length word → IsDigit (get_or word i 0) → 10 * value + (get_or word i 0 - 48) < 65536
-    → Reading word (10 * value + (get_or word i 0 - 48)) (i + 1)
-reading_next {word} {value} {i} r more digit small =
-    record {
-      within = omega arith;
-      digits = below_more _ _ r.digits digit;
-      number = next_value word i more ∙ ap (λ v. 10 * v + (get_or word i 0 - 48)) r.number;
-      small = small;
-    }
+  -- the word says the name, or cannot: with a value that is too large, or a byte that is no digit
+  pub reading_end : length word ≤ i → 0 < length word → Says word value
+  reading_end done some =
+      record {
+        some = some;
+        digits = λ k h. r.digits k (omega arith);
+        value = ap (value_from 0) (sym (take_all i word done)) ∙ r.number;
+        small = r.small;
+      }
 
--- the word says the name; or it cannot, with a byte that is no digit or a value that is too large
-pub reading_end : {word : List ℕ} {value i : ℕ} → Reading word value i → length word ≤ i → 0 < length word → Says word value
-reading_end {word} {value} {i} r done some =
-    record {
-      some = some;
-      digits = λ k h. r.digits k (omega arith);
-      value = ap (value_from 0) (sym (take_all i word done)) ∙ r.number;
-      small = r.small;
-    }
-
-pub no_digit : {word : List ℕ} (i : ℕ) → i < length word → (IsDigit (get_or word i 0) → ⊥) → (n : ℕ) → Says word n → ⊥
-no_digit i h bad n s = bad (s.digits i h)
-
-pub too_large : {word : List ℕ} {value i : ℕ} → Reading word value i → i < length word → 65535 < 10 * value + (get_or word i 0 - 48) → (n : ℕ) → Says word n → ⊥
-too_large {word} {value} {i} r more large n s =
-    let whole : value_from 0 word ≡ value_from (value_from 0 (take (i + 1) word)) (drop (i + 1) word) =
-    ap (value_from 0) (sym (take-append-drop (i + 1) word)) ∙ value_append 0 (take (i + 1) word) (drop (i + 1) word) in
-    let here : value_from 0 (take (i + 1) word) ≡ 10 * value + (get_or word i 0 - 48) =
-    next_value word i more ∙ ap (λ v. 10 * v + (get_or word i 0 - 48)) r.number in
-    omega (arith, whole, here, value_grows (value_from 0 (take (i + 1) word)) (drop (i + 1) word), s.value, s.small)
+  pub too_large : i < length word → 65535 < value * 10 + (get_or word i 0 - 48) → (n : ℕ) → Says word n → ⊥
+  too_large more large n s =
+      let whole : value_from 0 word ≡ value_from (value_from 0 (take (i + 1) word)) (drop (i + 1) word) =
+      ap (value_from 0) (sym (take-append-drop (i + 1) word)) ∙ value_append 0 (take (i + 1) word) (drop (i + 1) word) in
+      omega (arith, whole, next_value word i more, r.number, value_grows (value_from 0 (take (i + 1) word)) (drop (i + 1) word), s.value, s.small)

@@ -1,17 +1,14 @@
 -- Text that is written piece by piece.
-use Prim.Native.Nat.{ℕ, ◌+◌, ◌*◌, ◌≤◌, ◌<◌}
+use Prim.Native.Nat.{ℕ, zero, suc, ◌+◌, ◌*◌, ◌≤◌, ◌<◌}
 use native.Mathlib.Omega.{arith}
 use native.Mathlib.Numerals.{add-one}
-use mathlib.Core.List.{List, [], ◌∷◌, ◌++◌, append_assoc, append-nil}
-use mathlib.Core.Path.{◌≡◌, refl, sym, ap, ◌∙◌}
-use lib.ListN.{length, take, set, get_or, length-append, length-set}
-use lib.Seq.{take-suc, take-suc-set, length-take-le}
+use mathlib.Core.List.{List, [], ◌∷◌, ◌++◌, append_assoc, map, map-append}
+use Rattle.std.proofs.lemmas.List.{map-id}
+use mathlib.Core.Path.{◌≡◌, sym, ap, subst, ◌∙◌}
+use lib.ListN.{length, take, get_or, length-append}
+use lib.Seq.{take-suc, length-take-le}
 use Rattle.decimal.specs.Decimal.{lines, Writes}
 use Rattle.decimal.proofs.DecimalLaws.{lines_append}
-
--- bytes written
-pub put_writes : (out : List ℕ) (at v : ℕ) → at < length out → Writes (v ∷ []) out at (set out at v) (at + 1)
-put_writes out at v h = record { room = simp length-set (omega arith); places = rw add-one (take-suc-set out at v h) }
 
 -- one text behind another
 pub writes_then : {xs ys a b d : List ℕ} {at m r : ℕ} → Writes xs a at b m → Writes ys b m d r → Writes (xs ++ ys) a at d r
@@ -22,28 +19,25 @@ pub writes_end : {xs a b : List ℕ} {at r : ℕ} → Writes xs a at b r → at 
 writes_end {xs} {a} {b} {at} {r} w h =
     sym (length-take-le r b w.room) ∙ ap length w.places ∙ length-append (take at a) xs ∙ ap (λ n. n + length xs) (length-take-le at a h)
 
--- the first i numbers of the list are written from `start` on, each on a line of at most `wide` bytes
-pub record Listing (wide start : ℕ) (list : List ℕ) (n : ℕ) (out₀ out : List ℕ) (at i : ℕ) : Type 0 where
-  pub within : i ≤ n
-  pub size : length out ≡ length out₀
-  pub writes : Writes (lines (take i list)) out₀ start out at
-  pub far : at ≤ start + wide * i
+-- lines of numbers that are their own values, as u16 and u32 are
+pub writes_values : (ns : List ℕ) {a b : List ℕ} {at r : ℕ} → Writes (lines (map (λ n. n) ns)) a at b r → Writes (lines ns) a at b r
+writes_values ns {a} {b} {at} {r} w = subst (λ l. Writes (lines l) a at b r) (map-id ns) w
 
-pub listing_start : (wide start : ℕ) (list : List ℕ) (n : ℕ) (out : List ℕ) → start ≤ length out → Listing wide start list n out out start 0
-unfolding lines
-listing_start wide start list n out h = record { within = omega arith; size = refl; writes = record { room = h; places = sym (append-nil (take start out)) }; far = omega arith }
+-- room for n lines of at most w bytes is room for one behind i of them
+pub room_more : (w i n : ℕ) → i < n → w * i + w ≤ w * n
+room_more zero i n h = omega arith
+room_more (suc w) i n h = omega (arith, room_more w i n h)
 
-module _ {wide start n at i : ℕ} {list out₀ out : List ℕ} (l : Listing wide start list n out₀ out at i) where
-  pub listing_next : {out' : List ℕ} {r : ℕ} → i < n → n ≤ length list → length (lines (get_or list i 0 ∷ [])) ≤ wide
-      → Writes (lines (get_or list i 0 ∷ [])) out at out' r → length out' ≡ length out → Listing wide start list n out₀ out' r (i + 1)
-  listing_next more fits small w same =
-      let inside : i < length list = omega arith in
-      record {
-        within = omega arith;
-        size = same ∙ l.size;
-        writes = rw (add-one, take-suc list i 0 inside, lines_append) (writes_then l.writes w);
-        far = omega (arith, l.far, writes_end w l.writes.room, small);
-      }
+-- the numbers of a list, written line by line
+module _ {A : Type 0} (f : A → ℕ) (list : List A) where
+  -- one number more
+  lines_more : (i : ℕ) (d : A) → i < length list → lines (map f (take (i + 1) list)) ≡ lines (map f (take i list)) ++ lines (f (get_or list i d) ∷ [])
+  lines_more i d more = rw (add-one, take-suc list i d more, map-append f (take i list) (get_or list i d ∷ [])) (lines_append (map f (take i list)) (f (get_or list i d) ∷ []))
 
-  pub listing_end : n ≤ i → Writes (lines (take n list)) out₀ start out at
-  listing_end h = let e : i ≡ n = omega (arith, l.within) in rw e at l.writes
+  module _ {start at i n : ℕ} {out₀ out : List ℕ} {x : A} (w : Writes (lines (map f (take i list))) out₀ start out at) (more : i < length list) (is : x ≡ get_or list i x) (e : n ≡ f x) where
+    here : lines (map f (take (i + 1) list)) ≡ lines (map f (take i list)) ++ lines (n ∷ [])
+    here = lines_more i x more ∙ ap (λ k. lines (map f (take i list)) ++ lines (k ∷ [])) (sym (e ∙ ap f is))
+
+    -- the next, written
+    pub lines_next : {out' : List ℕ} {r : ℕ} → Writes (lines (n ∷ [])) out at out' r → Writes (lines (map f (take (i + 1) list))) out₀ start out' r
+    lines_next v = rw here (writes_then w v)

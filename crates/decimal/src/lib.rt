@@ -1,19 +1,15 @@
 // Numbers as decimal text: written to lines, and names read from a word.
 #![tactic(auto)]
 
-ghost use Rattle.std.specs.Prelude.{[], ◌∷◌, ◌+◌, ◌*◌, ◌≤◌, ◌<◌, length, take};
+ghost use Rattle.std.specs.Prelude.{[], ◌∷◌, ◌+◌, ◌*◌, ◌≤◌, ◌<◌, length, map};
 ghost use Rattle.decimal.specs.Decimal.{decimal, lines, signed_line, Writes};
 ghost use Rattle.decimal.specs.Parsing.{IsParsed};
 ghost use Rattle.decimal.specs.Texts.{Texts};
 
-// What a word says.
-#[derive(Clone, Copy)]
-pub enum Parsed {
-    Name(u16),
-    No,
-}
+use number::Number;
 
 // Writes a byte. Returns the place behind it, as all functions here that write do.
+// `out` and `at` stay two parameters: a cursor would keep `out` lent while callers, who go on in `out`, need what `Writes` says of it.
 fn put(out: &mut [u8], at: usize, value: u8) -> usize
     requires { at < length out.old }
     ensures { Writes (value ∷ []) out.old at out.new result }
@@ -28,10 +24,10 @@ fn put_decimal(out: &mut [u8], at: usize, n: u64) -> usize
     ensures { Writes (decimal n) out.old at out.new result }
 {
     if n < 10 {
-        return put(out, at, 48 + n as u8);
+        return put(out, at, b'0' + n as u8);
     }
     let next = put_decimal(out, at, n / 10);
-    put(out, next, 48 + (n % 10) as u8)
+    put(out, next, b'0' + (n % 10) as u8)
 }
 
 // Writes the decimal text of a number and a line feed.
@@ -40,7 +36,7 @@ pub fn put_line(out: &mut [u8], at: usize, n: u64) -> usize
     ensures { Writes (lines (n ∷ [])) out.old at out.new result }
 {
     let next = put_decimal(out, at, n);
-    put(out, next, 10)
+    put(out, next, b'\n')
 }
 
 // Writes the decimal text of a number that may be negative, and a line feed.
@@ -52,63 +48,37 @@ pub fn put_signed(out: &mut [u8], at: usize, n: i64) -> usize
     if 0 <= n {
         return put_line(out, at, distance);
     }
-    let next = put(out, at, 45);
+    let next = put(out, at, b'-');
     put_line(out, next, distance)
 }
 
-// Writes the first n names of a list, each to a line.
-pub fn write_names(list: &[u16], n: usize, out: &mut [u8], first: usize) -> usize
-    requires { (n ≤ length list.now) × (first + 6 * n ≤ length out.old) }
-    ensures { Writes (lines (take n list.now)) out.old first out.new result }
-{
-    let mut at = first;
-    let mut i = 0;
-    while i < n {
-        at = put_line(out, at, list[i] as u64);
-        i += 1;
-    }
-    at
-}
-
-// Writes the first n numbers of a list, each to a line.
-pub fn write_numbers(list: &[u32], n: usize, out: &mut [u8], start: usize) -> usize
-    requires { (n ≤ length list.now) × (start + 11 * n ≤ length out.old) }
-    ensures { Writes (lines (take n list.now)) out.old start out.new result }
+// Writes the numbers of a list, each to a line.
+pub fn write_numbers<T: Number>(list: &[T], out: &mut [u8], start: usize) -> usize
+    requires { start + (T.digits + 1) * length list.now ≤ length out.old }
+    ensures { Writes (lines (map T.value list.now)) out.old start out.new result }
 {
     let mut at = start;
-    let mut i = 0;
-    while i < n {
-        at = put_line(out, at, list[i] as u64);
-        i += 1;
+    for &number in list {
+        at = put_line(out, at, number.wide());
     }
     at
 }
 
 // The name that a word says, if it says one.
-pub fn parse_name(word: &[u8]) -> Parsed
+pub fn parse_name(word: &[u8]) -> Option<u16>
     ensures { IsParsed word.now result }
 {
-    if word.len() == 0 {
-        return Parsed::No;
+    if word.is_empty() {
+        return None;
     }
-    let mut value: u32 = 0;
-    let mut i = 0;
-    while i < word.len() {
-        let byte = word[i];
-        if byte < 48 {
-            return Parsed::No;
+    let mut value: u16 = 0;
+    for &byte in word {
+        if !byte.is_ascii_digit() {
+            return None;
         }
-        if 57 < byte {
-            return Parsed::No;
-        }
-        value = 10 * value + (byte - 48) as u32;
-        if 65535 < value {
-            return Parsed::No;
-        }
-        i += 1;
+        value = value.checked_mul(10)?.checked_add(u16::from(byte - b'0'))?;
     }
-    let name = value as u16;
-    Parsed::Name(name)
+    Some(value)
 }
 
 // The text of a name says the name, without a leading zero.

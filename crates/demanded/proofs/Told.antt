@@ -1,17 +1,18 @@
 -- The code's answer to a call, told apart by its case.
+use Rattle.std.specs.Prelude.{Result, Err, Ok}
 use Prim.Native.Nat.{ℕ, ◌≤◌}
 use native.Mathlib.Omega.{arith}
 use mathlib.Core.Path.{◌≡◌, sym, ap, subst, ◌∙◌}
 use mathlib.Core.List.{List}
 use lib.ListN.{length, take, length-take}
-use Rattle.bundle.specs.declared.Answer as code
-use Rattle.bundle.specs.declared.Answer.TheVariants.{Accepted as Taken, Refused as Turned}
+use Rattle.refusal.specs.declared.Refusal.{Refusal}
+use Rattle.refusal.specs.Numbers.{number}
 use Rattle.bundle.specs.Opened.{answer_meant}
 use Rattle.meaning.specs.Calls.{accepted, refused_with, Outcome, Call}
 use Rattle.meaning.proofs.CallLaws.{call_accepted}
 
 -- an acceptance with n
-module _ (o : Outcome) {before after : List ℕ} {r : code.Answer} {n : ℕ} (c : Call o before after (answer_meant r)) (e : r ≡ Taken n) where
+module _ (o : Outcome) {before after : List ℕ} {r : Result ℕ Refusal} {n : ℕ} (c : Call o before after (answer_meant r)) (e : r ≡ Ok n) where
   pub accepted_call : Call o before after (accepted n)
   unfolding answer_meant
   accepted_call = subst (λ r. Call o before after (answer_meant r)) e c
@@ -23,6 +24,6 @@ module _ (o : Outcome) {before after : List ℕ} {r : code.Answer} {n : ℕ} (c 
   accepted_within = omega (arith, length-take n after, accepted_size)
 
 -- a refusal with k
-pub refused_call : (o : Outcome) {before after : List ℕ} {r : code.Answer} {k : ℕ} → Call o before after (answer_meant r) → r ≡ Turned k → Call o before after (refused_with k)
+pub refused_call : (o : Outcome) {before after : List ℕ} {r : Result ℕ Refusal} {k : Refusal} → Call o before after (answer_meant r) → r ≡ Err k → Call o before after (refused_with (number k))
 unfolding answer_meant
 refused_call o {before} {after} c e = subst (λ r. Call o before after (answer_meant r)) e c

@@ -7,32 +7,37 @@ ghost use Rattle.search_from.specs.Listing as listing;
 ghost use Rattle.demanded.specs.Followed.{FollowedGiven};
 ghost use Rattle.demands.specs.Demands.{Demand1, Nothing, ReportOf, RenumberedOf, ChainOf, Demand3Alike, Demand3Report};
 
-use bundle::Answer;
-use search_from::Listing;
+use refusal::Refusal;
+use search_from::Listed;
 
 // Whether the bytes are accepted.
-pub fn accept(bundle: &[u8]) -> Answer
+pub fn accept(bundle: &[u8]) -> Result<usize, Refusal>
     ensures { Demand1 Nothing bundle.now [] [] (answer_meant result) }
 {
     acceptance::accept(bundle)
 }
 
 // The report.
-pub fn report(bundle: &[u8], out: &mut [u8]) -> Answer
+pub fn report(bundle: &[u8], out: &mut [u8]) -> Result<usize, Refusal>
     ensures { Demand1 ReportOf bundle.now out.old out.new (answer_meant result) }
 {
     report::report(bundle, out)
 }
 
 // The bundle with its names renumbered.
-pub fn renumber(bundle: &[u8], out: &mut [u8]) -> Answer
+pub fn renumber(bundle: &[u8], out: &mut [u8]) -> Result<usize, Refusal>
     ensures { Demand1 RenumberedOf bundle.now out.old out.new (answer_meant result) }
 {
     renumber::renumber(bundle, out)
 }
 
 // The chain from one name to another, and the count of the names whose edges the search followed.
-pub fn find_layout_dependency_chain(bundle: &[u8], from: u16, to: u16, list: &mut [u16]) -> Listing
+pub fn find_layout_dependency_chain(
+    bundle: &[u8],
+    from: u16,
+    to: u16,
+    list: &mut [u16],
+) -> Result<Listed, Refusal>
     ensures demand1 { Demand1 (ChainOf from to) bundle.now list.old list.new (listing.answer_meant result) }
     ensures followed_given { FollowedGiven from to bundle.now result }
 {
@@ -42,8 +47,8 @@ pub fn find_layout_dependency_chain(bundle: &[u8], from: u16, to: u16, list: &mu
 // The answers of two calls.
 #[derive(Clone, Copy)]
 pub struct Answers {
-    pub first: Answer,
-    pub second: Answer,
+    pub first: Result<usize, Refusal>,
+    pub second: Result<usize, Refusal>,
 }
 
 // Two bundles with their names renumbered.
@@ -64,13 +69,13 @@ pub fn report_renumbered(bundle: &[u8], bytes: &mut [u8], out: &mut [u8]) -> Ans
 {
     let first = renumber::renumber(bundle, bytes);
     match first {
-        Answer::Accepted(n) => {
+        Ok(n) => {
             let second = report::report(&bytes[..n], out);
             Answers { first, second }
         }
-        Answer::Refused(k) => Answers {
+        Err(refusal) => Answers {
             first,
-            second: Answer::Refused(k),
+            second: Err(refusal),
         },
     }
 }

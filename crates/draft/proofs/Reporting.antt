@@ -1,4 +1,6 @@
 -- The report as a call writes it.
+use Rattle.std.specs.Prelude.{Err, Ok}
+use Rattle.refusal.specs.declared.Refusal.TheVariants.{NoRoom}
 use Prim.Native.Nat.{ℕ, ◌+◌, ◌≤◌, ◌<◌}
 use native.Mathlib.Omega.{arith}
 use mathlib.Core.Bool.{false}
@@ -16,7 +18,6 @@ use Rattle.meaning.specs.Tree.{Bundle}
 use Rattle.meaning.specs.Violations.{violations}
 use Rattle.meaning.proofs.Counts.{violations_few}
 use Rattle.meaning.proofs.ReadWithin.{bundle_within}
-use Rattle.bundle.specs.declared.Answer.TheVariants.{Accepted, Refused}
 use Rattle.bundle.specs.declared.Layout.{Layout}
 use Rattle.bundle.specs.Definitions.{bundle_of}
 use Rattle.bundle.specs.Opened.{LayoutOf, answer_meant}
@@ -44,7 +45,7 @@ module _ (b : Bundle) {nowhere nowhere' : List ℕ} {c : Position} (w : Wrote (v
   counted_size = omega (arith, w.puts.behind)
 
   -- the report is longer than the places
-  pub too_long : (out : List ℕ) → length out < c.at → Call (result (report b)) out out (answer_meant (Refused 9))
+  pub too_long : (out : List ℕ) → length out < c.at → Call (result (report b)) out out (answer_meant (Err NoRoom))
   unfolding answer_meant answer_of places_after
   too_long out h =
       let t = lt-leb (length (report b)) (length out) (omega (arith, counted_size)) in
@@ -60,7 +61,7 @@ module _ (b : Bundle) {nowhere nowhere' : List ℕ} {c : Position} (w : Wrote (v
       puts_both p (puts_both (subst (λ k. Puts (bytes (two_bytes k)) o₁ m₁ o₂ 3) counts (subst (λ k. Puts (bytes (two_bytes c.count)) o₁ m₁ o₂ k) three q)) r.puts)
 
   pub written_whole : {out o₁ o₂ out' : List ℕ} {m₁ m₂ : ℕ} {e : Position} → c.at ≤ length out → Puts (0x70 ∷ []) out 0 o₁ m₁ → Puts (bytes (two_bytes c.count)) o₁ m₁ o₂ m₂
-      → Wrote (violations b) o₂ start out' e → Call (result (report b)) out out' (answer_meant (Accepted e.at))
+      → Wrote (violations b) o₂ start out' e → Call (result (report b)) out out' (answer_meant (Ok e.at))
   unfolding answer_meant answer_of places_after
   written_whole {out} h p q r =
       let t = le-leb (length (report b)) (length out) (omega (arith, counted_size)) in

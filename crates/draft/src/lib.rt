@@ -1,7 +1,7 @@
 // A report written where there is room for it.
 #![tactic(auto)]
 
-ghost use Rattle.std.specs.Prelude.{true, false, ◌+◌, ◌-◌, ◌*◌, ◌≤◌, length, take, drop};
+ghost use Rattle.std.specs.Prelude.{true, false, ◌+◌, ◌*◌, ◌≤◌, length};
 ghost use Rattle.meaning.specs.Calls.{Call};
 ghost use Rattle.meaning.specs.Calls as calls;
 ghost use Rattle.meaning.specs.Report.{report};
@@ -11,24 +11,13 @@ ghost use Rattle.bundle.specs.Opened.{LayoutOf, answer_meant};
 ghost use Rattle.sizes.specs.Tests.{Acyclic, Kept};
 ghost use Rattle.notes.specs.Notes.{Noted};
 ghost use Rattle.checks.specs.Checks.{EdgesPrepared};
-ghost use Rattle.violation.specs.Records.{Puts};
 
-use bundle::{Answer, Layout};
+use bundle::Layout;
+use refusal::Refusal;
 use validate::Position;
 
 // The bytes of a draft.
 const DRAFT: usize = 1024;
-
-// Copies the places from 3 to `end` of a draft.
-fn copy_records(draft: &[u8], end: usize, out: &mut [u8])
-    requires { (3 ≤ end) × (end ≤ length draft.now) × (end ≤ 1024) }
-    ensures { Puts (take (end - 3) (drop 3 draft.now)) out.old 3 out.new end }
-{
-    let mut at = 3;
-    while at < end {
-        at = violation::put_byte(out, at, draft[at]);
-    }
-}
 
 // Writes the report, if there is room for all of it. A first run writes into a buffer of its own and counts, so that a refusal leaves
 // the places as they are. A report that fits there is copied; a longer one is written by a second run.
@@ -36,12 +25,12 @@ pub fn write_report(
     s: &[u8],
     places: &[u16],
     layout: Layout,
-    kept: &mut [u8; bundle::DEFINITIONS],
-    nested: &mut [u8; bundle::DEFINITIONS],
+    kept: &mut [Option<bool>; bundle::DEFINITIONS],
+    nested: &mut [Option<bool>; bundle::DEFINITIONS],
     edges: &[u16],
     work: &mut [u16],
     out: &mut [u8],
-) -> Answer
+) -> Result<usize, Refusal>
     requires edges_prepared { EdgesPrepared s.now layout edges.now × (7 * layout.edges + 7 ≤ length work.old) }
     requires layout_of { LayoutOf s.now layout places.now × (length (violations (bundle_of s.now)) ≤ 65535) × Noted s.now places.now layout.definitions }
     requires acyclic { Acyclic s.now × Kept s.now false kept.old × Kept s.now true nested.old }
@@ -53,16 +42,16 @@ pub fn write_report(
         s, places, layout, kept, nested, edges, work, &mut draft, start,
     );
     if out.len() < counted.at {
-        return Answer::Refused(9);
+        return Err(Refusal::NoRoom);
     }
     let second = violation::put_byte(out, 0, 0x70);
     violation::put_two(out, second, counted.count as u16);
     if counted.at <= DRAFT {
-        copy_records(&draft, counted.at, out);
-        return Answer::Accepted(counted.at);
+        violation::put_bytes(out, 3, &draft[3..counted.at]);
+        return Ok(counted.at);
     }
     let written = pass::validate_layout_constraints(
         s, places, layout, kept, nested, edges, work, out, start,
     );
-    Answer::Accepted(written.at)
+    Ok(written.at)
 }

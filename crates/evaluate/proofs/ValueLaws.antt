@@ -1,20 +1,21 @@
 -- The value of an expression by its form, in the form in which the code returns it.
 use Prim.Native.Nat.{ℕ, ◌+◌, ◌-◌, ◌≤◌, ◌<◌}
 use native.Mathlib.Omega.{arith}
-use mathlib.Core.Bool.{Bool, true, false}
-use mathlib.Core.List.{List, [], ◌∷◌}
+use mathlib.Core.Bool.{Bool, true, false, true≢false}
+use mathlib.Core.List.{List}
 use mathlib.Core.Option.{Option, some, none}
-use mathlib.Core.Path.{◌≡◌, refl, sym, ap, subst, ◌∙◌}
-use types.Run.{OneOf, miss}
-use denote.Enum.Declared.{tag_of}
+use mathlib.Core.Path.{◌≡◌, refl, sym, ap, ◌∙◌}
 use lib.Dec.{T, leb, leb→le}
 use lib.IntN.{ℤ, pos, negsuc, nat_abs}
-use lib.Signed.{lt_z, non_neg}
 use lib.ListN.{length, get_or}
-use borrow.Author.Tests.{le-ltb}
 use mir.Syntax.{w64}
-use mir.Val.{Fits, SFits}
+use mir.Val.{SFits}
 use mir.ValLaws.{to_z-of_z}
+use Rattle.std.specs.Option.{unwrap_or}
+use Rattle.bundle.proofs.Forms.{field_ref_meant, sizeof_meant, alignof_meant, unary_meant}
+use Rattle.std.specs.Prelude.{is_some, Result, Ok, Err, Some, None, IsErrAnd, OkIff}
+use Rattle.std.specs.Result.{result_ok}
+use Rattle.std.specs.Int.{FitsUnsignedBits}
 use Rattle.meaning.specs.Kinds.{Form, OfExpr, OfType, Literal, FieldRef, Sizeof, Alignof, Binary, Unary, form_of, lookup}
 use Rattle.meaning.specs.Kinds as kinds
 use Rattle.meaning.specs.Reader.{little}
@@ -22,10 +23,9 @@ use Rattle.meaning.specs.ReadExpr.{read_expr}
 use Rattle.meaning.specs.Tree.{Expr, literal}
 use Rattle.meaning.proofs.Readings.{due_ok}
 use Rattle.bundle.specs.declared.Form as code
-use Rattle.bundle.specs.declared.Step.TheVariants.{Next}
+use Rattle.bundle.specs.declared.ExprForm as code_expr
 use Rattle.bundle.specs.View.{step_of, Reads, form_meant}
 use Rattle.bundle.specs.Expressions.{expr_at}
-use Rattle.bundle.specs.contracts.Form.{the_type}
 use Rattle.bundle.proofs.ExprLaws.{Opened, literal_ends, binary_ends}
 use Rattle.bundle.proofs.Trees.{expr_deep, expr_there, ended, literal_tree, field_ref_tree, sizeof_tree, alignof_tree, unary_tree, binary_tree, left_reads, right_reads}
 use Rattle.bundle.proofs.Heads.{body_where}
@@ -33,15 +33,12 @@ use Rattle.fixed_meaning.specs.Value as meaning
 use Rattle.fixed_meaning.specs.Value.{valued, unvalued, literal_value, operations, operation_of, applied, operated_by, operated, value_of}
 use Rattle.fixed_meaning.specs.Fixed.{count_by, count_of}
 use Rattle.fixed_meaning.proofs.Every.{every_at}
-use Rattle.extents.specs.declared.Counted.TheVariants.{Of, Nothing}
 use Rattle.extents.specs.Meant.{count_meant}
-use Rattle.values.specs.declared.Valued.{Valued}
-use Rattle.values.specs.declared.Valued.TheVariants.{Is, Refused as Not}
 use Rattle.values.specs.Meant.{value_meant, covers}
-use Rattle.values.proofs.Sums.{back}
-use Rattle.evaluate.specs.declared.Evaluated.{Evaluated}
-use Rattle.evaluate.specs.declared.Evaluated.TheVariants.{Value, Refused}
-use Rattle.evaluate.specs.Evaluates.{with_end, Evaluates}
+use Rattle.values.proofs.Arithmetic.{back}
+use Rattle.refusal.specs.declared.Refusal.{Refusal}
+use Rattle.refusal.specs.Numbers.{number}
+use Rattle.evaluate.specs.Evaluates.{Evaluates}
 
 -- the bytes of a literal
 abbrev literal_width : Form → ℕ
@@ -62,10 +59,10 @@ width_most k w h e =
     let t : T (leb (literal_width (form_of k)) 8) = every_at (λ k. leb (literal_width (form_of k)) 8) 256 k tt h in
     leb→le w 8 (rw e at t)
 
--- a form that a `let .. else` has found to be no expression's
-pub not_expr : (f : code.Form) → OneOf (1 ∷ 2 ∷ 3 ∷ 4 ∷ []) (tag_of the_type f) → (e : kinds.ExprForm) → form_meant f ≡ OfExpr e → ⊥
+-- a form that is no expression's
+pub not_expr : (f : code.Form) → ((x : code_expr.ExprForm) → f ≡ code.TheVariants.OfExpr x → ⊥) → (e : kinds.ExprForm) → form_meant f ≡ OfExpr e → ⊥
 unfolding form_meant
-not_expr (code.TheVariants.OfExpr x) o e p = absurd (miss (1 ∷ 2 ∷ 3 ∷ 4 ∷ []) 0 tt o)
+not_expr (code.TheVariants.OfExpr x) o e p = o x refl
 not_expr (code.TheVariants.OfType x) o e p = let z : ◌≡◌ {A = ℕ} 0 1 = cc in omega arith
 not_expr (code.TheVariants.OfMember x) o e p = let z : ◌≡◌ {A = ℕ} 0 1 = cc in omega arith
 not_expr (code.TheVariants.OfRecord x) o e p = let z : ◌≡◌ {A = ℕ} 0 1 = cc in omega arith
@@ -74,37 +71,16 @@ not_expr code.TheVariants.Unknown o e p = let z : ◌≡◌ {A = ℕ} 0 1 = cc i
 pub expr_opened : (d at : ℕ) (s : List ℕ) (f : Form) → Reads (read_expr d s at) → f ≡ form_of (get_or s at 0) → Opened d at s f
 expr_opened d at s f r e = record { deep = expr_deep d at s r; there = expr_there d at s r; form = e }
 
--- a value with its end, which has come back from its bits
-pub with_value : (u : Valued) (z : ℤ) (end : ℕ) → SFits w64 z → u ≡ Is z → Value (back z) end ≡ with_end u end
-unfolding with_end
-with_value u z end f e = rw (e, to_z-of_z w64 z f)
-
-pub with_refusal : (u : Valued) (k end : ℕ) → u ≡ Not k → Refused k ≡ with_end u end
-unfolding with_end
-with_refusal u k end e = rw e
-
 module _ (d : ℕ) (s : List ℕ) (at : ℕ) where
-  ends_with : (u : Valued) (end : ℕ) → value_meant u ≡ value_of (expr_at d s at) → Next end ≡ step_of (read_expr d s at) → (e : Evaluated) → e ≡ with_end u end → Evaluates d s at e
-  unfolding with_end value_meant
-  ends_with u end q n e g = subst (Evaluates d s at) (sym g) (go u q)
-    where
-      go : (u : Valued) → value_meant u ≡ value_of (expr_at d s at) → Evaluates d s at (with_end u end)
-      go (Is z) q = (q, n)
-      go (Not k) q = q
-
-  -- what is found is the value
-  pub found_value : (e : Evaluated) (z : ℤ) (end : ℕ) → e ≡ Value z end → SFits w64 z → Evaluates d s at e → value_meant (Is (back z)) ≡ value_of (expr_at d s at)
-  unfolding value_meant
-  found_value e z end g f h = rw (to_z-of_z w64 z f) (subst (Evaluates d s at) g h).0
-
-  pub found_refusal : (e : Evaluated) (k : ℕ) → e ≡ Refused k → Evaluates d s at e → value_meant (Not k) ≡ value_of (expr_at d s at)
-  unfolding value_meant
-  found_refusal e k g h = subst (Evaluates d s at) g h
+  -- a refusal that is passed on
+  pub refused : (r : Result (ℤ × ℕ) Refusal) (k : Refusal) → IsErrAnd r (λ e. e ≡ k) → unvalued (number k) ≡ value_of (expr_at d s at) → Evaluates d s at r
+  refused (Err e) k m h = rw m h
+  refused (Ok x) k m h = absurd m
 
 -- an expression that was read, by its form
 module _ {d at : ℕ} {s : List ℕ} {f : Form} (o : Opened d at s f) (r : Reads (read_expr d s at)) where
   module _ (w : ℕ) (p : f ≡ OfExpr (Literal w)) where
-    body_ends : (m : ℕ) × ((m ≡ at + 1 + w) × ((at + 1 + w ≤ length s) × (Next m ≡ step_of (read_expr d s at))))
+    body_ends : (m : ℕ) × ((m ≡ at + 1 + w) × ((at + 1 + w ≤ length s) × (Ok m ≡ step_of (read_expr d s at))))
     body_ends = let m = ended (read_expr d s at) r in let b = body_where w (at + 1) m.0 s (m.1 ∙ literal_ends o w p) in (m.0, (b.0, (b.1, m.1)))
 
     pub literal_there : at + 1 + w ≤ length s
@@ -116,26 +92,12 @@ module _ {d at : ℕ} {s : List ℕ} {f : Form} (o : Opened d at s f) (r : Reads
     literal_is : expr_at d s at ≡ literal (get_or s at 0) (little s (at + 1) w)
     literal_is = literal_tree o r w p ∙ ap (literal (get_or s at 0)) (rw (due_ok w (at + 1) s literal_there))
 
-    pub literal_evaluates : (u : Valued) (v : ℕ) → v ≡ little s (at + 1) w → value_meant u ≡ literal_value (get_or s at 0) v → (x : Evaluated) → x ≡ with_end u (at + 1 + w) → Evaluates d s at x
+    pub literal_valued : (v : ℕ) → v ≡ little s (at + 1) w → literal_value (get_or s at 0) v ≡ value_of (expr_at d s at)
     unfolding value_of
-    literal_evaluates u v e q =
-        ends_with d s at u (at + 1 + w) (q ∙ ap (literal_value (get_or s at 0)) e ∙ sym (rw literal_is)) (ap Next (sym body_ends.1.0) ∙ body_ends.1.1.1)
+    literal_valued v e = ap (literal_value (get_or s at 0)) e ∙ sym (rw literal_is)
 
-  pub field_ref_evaluates : (n : ℕ) → f ≡ OfExpr (FieldRef n) → unvalued 15 ≡ value_of (expr_at d s at)
-  unfolding value_of
-  field_ref_evaluates n p = rw (field_ref_tree o r n p)
-
-  pub sizeof_evaluates : f ≡ OfExpr Sizeof → unvalued 15 ≡ value_of (expr_at d s at)
-  unfolding value_of
-  sizeof_evaluates p = rw (sizeof_tree o r p)
-
-  pub alignof_evaluates : f ≡ OfExpr Alignof → unvalued 15 ≡ value_of (expr_at d s at)
-  unfolding value_of
-  alignof_evaluates p = rw (alignof_tree o r p)
-
-  pub unary_evaluates : f ≡ OfExpr Unary → unvalued 15 ≡ value_of (expr_at d s at)
-  unfolding value_of
-  unary_evaluates p = rw (unary_tree o r p)
+    pub literal_end : Ok (at + 1 + w) ≡ step_of (read_expr d s at)
+    literal_end = ap Ok (sym body_ends.1.0) ∙ body_ends.1.1.1
 
   -- a binary expression
   module _ (p : f ≡ OfExpr Binary) where
@@ -143,7 +105,7 @@ module _ {d at : ℕ} {s : List ℕ} {f : Form} (o : Opened d at s f) (r : Reads
     kind = get_or s at 0
 
     -- of which the left side ends at m
-    module _ (m : ℕ) (e : Next m ≡ step_of (read_expr (d - 1) s (at + 1))) where
+    module _ (m : ℕ) (e : Ok m ≡ step_of (read_expr (d - 1) s (at + 1))) where
       binary_is : value_of (expr_at d s at) ≡ operated kind (value_of (expr_at (d - 1) s (at + 1))) (value_of (expr_at (d - 1) s m))
       unfolding value_of
       binary_is = rw (binary_tree o r p m e)
@@ -166,74 +128,73 @@ module _ {d at : ℕ} {s : List ℕ} {f : Form} (o : Opened d at s f) (r : Reads
           go : (x : Option (ℤ → ℤ → meaning.Value)) → covers x ≡ true → operated_by x l r ≡ unvalued k
           go none h = let z : ◌≡◌ {A = ℕ} 0 1 = cc in absurd (omega arith)
           go (some g) h = a g
+          -- and its left side is refused
 
-      -- and its left side is refused
-      pub left_refused : (u : Evaluated) (k : ℕ) → u ≡ Refused k → Evaluates (d - 1) s (at + 1) u → Evaluates d s at u
+      pub left_refused : (k : ℕ) → unvalued k ≡ value_of (expr_at (d - 1) s (at + 1)) → unvalued k ≡ value_of (expr_at d s at)
       unfolding applied
-      left_refused u k e q =
+      left_refused k h =
           let m = ended (read_expr (d - 1) s (at + 1)) (left_reads o r p) in
-          let h : unvalued k ≡ value_of (expr_at (d - 1) s (at + 1)) = subst (Evaluates (d - 1) s (at + 1)) e q in
-          rw e (sym (binary_is m.0 m.1 ∙ rw (← h) (by_sides (unvalued k) (value_of (expr_at (d - 1) s m.0)) k (λ g. refl))))
+          sym (binary_is m.0 m.1 ∙ rw (← h) (by_sides (unvalued k) (value_of (expr_at (d - 1) s m.0)) k (λ g. refl)))
 
       -- its left side has a value, and the right side is refused
-      pub right_refused : (u v : Evaluated) (x : ℤ) (m k : ℕ) → u ≡ Value x m → v ≡ Refused k → Evaluates (d - 1) s (at + 1) u → Evaluates (d - 1) s m v → Evaluates d s at v
+      pub right_refused : (x : ℤ) (m k : ℕ) → Evaluates (d - 1) s (at + 1) (Ok (x, m)) → unvalued k ≡ value_of (expr_at (d - 1) s m) → unvalued k ≡ value_of (expr_at d s at)
       unfolding applied
-      right_refused u v x m k e g a b =
-          let l : Evaluates (d - 1) s (at + 1) (Value x m) = subst (Evaluates (d - 1) s (at + 1)) e a in
-          let h : unvalued k ≡ value_of (expr_at (d - 1) s m) = subst (Evaluates (d - 1) s m) g b in
-          rw g (sym (binary_is m l.1 ∙ rw (← l.0, ← h) (by_sides (valued x) (unvalued k) k (λ g. refl))))
+      right_refused x m k l h = sym (binary_is m l.1 ∙ rw (← l.0, ← h) (by_sides (valued x) (unvalued k) k (λ g. refl)))
 
     -- the right side was read where the left one ends
-    pub right_there : (u : Evaluated) (x : ℤ) (m : ℕ) → u ≡ Value x m → Evaluates (d - 1) s (at + 1) u → Reads (read_expr (d - 1) s m)
-    right_there u x m e a = right_reads o r p m (subst (Evaluates (d - 1) s (at + 1)) e a).1
+    pub right_there : (x : ℤ) (m : ℕ) → Evaluates (d - 1) s (at + 1) (Ok (x, m)) → Reads (read_expr (d - 1) s m)
+    right_there x m l = right_reads o r p m l.1
 
     -- both sides have a value; these have come back from their bits
-    pub both_valued : (u v : Evaluated) (x y : ℤ) (m end : ℕ) → u ≡ Value x m → v ≡ Value y end → SFits w64 x → SFits w64 y → Evaluates (d - 1) s (at + 1) u → Evaluates (d - 1) s m v
-        → (w : Valued) → value_meant w ≡ operated kind (valued (back x)) (valued (back y)) → (z : Evaluated) → z ≡ with_end w end → Evaluates d s at z
-    both_valued u v x y m end e g f h a b w q z n =
-        let l : Evaluates (d - 1) s (at + 1) (Value x m) = subst (Evaluates (d - 1) s (at + 1)) e a in
-        let k : Evaluates (d - 1) s m (Value y end) = subst (Evaluates (d - 1) s m) g b in
-        let c : operated kind (valued (back x)) (valued (back y)) ≡ operated kind (valued x) (valued y) = rw (to_z-of_z w64 x f, to_z-of_z w64 y h) refl in
-        ends_with d s at w end (q ∙ c ∙ sym (binary_is m l.1 ∙ rw (← l.0, ← k.0) refl)) (k.1 ∙ sym (binary_ends o m p l.1)) z n
+    module _ (x y : ℤ) (m end : ℕ) (i : SFits w64 x) (h : SFits w64 y) (l : Evaluates (d - 1) s (at + 1) (Ok (x, m))) (k : Evaluates (d - 1) s m (Ok (y, end))) where
+      pub both_valued : operated kind (valued (back x)) (valued (back y)) ≡ value_of (expr_at d s at)
+      both_valued =
+          let c : operated kind (valued (back x)) (valued (back y)) ≡ operated kind (valued x) (valued y) = rw (to_z-of_z w64 x i, to_z-of_z w64 y h) refl in
+          c ∙ sym (binary_is m l.1 ∙ rw (← l.0, ← k.0) refl)
 
--- the count, where the value that was found has come back from its bits
-module _ (e : Expr) (u : Valued) (q : value_meant u ≡ value_of e) where
-  pub refused_count : (k : ℕ) → u ≡ Not k → count_meant Nothing ≡ count_of e
-  unfolding count_of count_by count_meant value_meant
-  refused_count k g = let h : unvalued k ≡ value_of e = subst (λ u. value_meant u ≡ value_of e) g q in rw (← h)
+      pub both_end : Ok end ≡ step_of (read_expr d s at)
+      both_end = k.1 ∙ sym (binary_ends o m p l.1)
 
-  module _ (z : ℤ) (g : u ≡ Is z) (f : SFits w64 z) where
-    is : valued z ≡ value_of e
-    unfolding value_meant
-    is = subst (λ u. value_meant u ≡ value_of e) g q
+-- an expression that is neither a literal nor binary has no value
+module _ {d at : ℕ} {s : List ℕ} (r : Reads (read_expr d s at)) where
+  pub other_refused : (f : code.Form) (x : code_expr.ExprForm) → f ≡ code.TheVariants.OfExpr x → Opened d at s (form_meant f) → ((w : ℕ) → x ≡ code_expr.TheVariants.Literal w → ⊥) → (x ≡ code_expr.TheVariants.Binary → ⊥) → unvalued 15 ≡ value_of (expr_at d s at)
+  unfolding value_of
+  other_refused f (code_expr.TheVariants.Literal w) e o l b = absurd (l w refl)
+  other_refused f (code_expr.TheVariants.FieldRef n) e o l b = rw (field_ref_tree o r n (field_ref_meant e))
+  other_refused f code_expr.TheVariants.Sizeof e o l b = rw (sizeof_tree o r (sizeof_meant e))
+  other_refused f code_expr.TheVariants.Alignof e o l b = rw (alignof_tree o r (alignof_meant e))
+  other_refused f code_expr.TheVariants.Binary e o l b = absurd (b refl)
+  other_refused f code_expr.TheVariants.Unary e o l b = rw (unary_tree o r (unary_meant e))
 
-    pub negative_count : lt_z (back z) (pos 0) ≡ true → count_meant Nothing ≡ count_of e
-    unfolding count_of count_by count_meant
-    negative_count h = rw (← is) (go z (rw (to_z-of_z w64 z f) at h))
-      where
-        go : (z : ℤ) → lt_z z (pos 0) ≡ true → none ≡ count_by (valued z)
-        go (pos n) h = let t : true ≡ false = sym h ∙ le-ltb n 0 (omega arith) in let y : ◌≡◌ {A = ℕ} 0 1 = cc in absurd (omega arith)
-        go (negsuc n) h = refl
+-- a value that has come back from its bits
+pub returned : (z : ℤ) (v : meaning.Value) → SFits w64 z → value_meant (Ok z) ≡ v → valued (back z) ≡ v
+unfolding value_meant
+returned z v f e = ap valued (to_z-of_z w64 z f) ∙ e
 
-    -- the value is not negative
-    module _ (h : lt_z (back z) (pos 0) ≡ false) where
-      record Natural : Type 0 where
-        pub n : ℕ
-        pub same : back z ≡ pos n
-        pub few : n < 9223372036854775808
+pub value_returned : (z : ℤ) (v : meaning.Value) → SFits w64 z → valued z ≡ v → value_meant (Ok (back z)) ≡ v
+unfolding value_meant
+value_returned z v f e = ap valued (to_z-of_z w64 z f) ∙ e
 
-      natural : Natural
-      natural = go z f (rw (to_z-of_z w64 z f) at h) (to_z-of_z w64 z f)
-        where
-          go : (y : ℤ) → SFits w64 y → lt_z y (pos 0) ≡ false → back z ≡ y → Natural
-          go (pos n) f h e = record { n = n; same = e; few = omega (arith, f.sfits) }
-          go (negsuc n) f h e = let y : ◌≡◌ {A = ℕ} 0 1 = cc in absurd (omega arith)
+pub value_refused : (r : Result ℤ Refusal) (k : Refusal) (v : meaning.Value) → IsErrAnd r (λ e. e ≡ k) → unvalued (number k) ≡ v → value_meant r ≡ v
+unfolding value_meant
+value_refused (Err e) k v m h = rw m h
+value_refused (Ok x) k v m h = absurd m
 
-      pub count_casts : T (non_neg (back z)) × Fits w64 (nat_abs (back z))
-      count_casts = rw natural.same (tt, record { fits = omega (arith, natural.few) })
+-- the count
+pub no_count : (e : Expr) (u : Result ℤ Refusal) → value_meant u ≡ value_of e → result_ok u ≡ None → count_meant None ≡ count_of e
+unfolding count_of count_by count_meant value_meant
+no_count e (Ok z) q n = absurd (true≢false (ap is_some n))
+no_count e (Err k) q n = rw (← q)
 
-      pub count_is : count_meant (Of (nat_abs (back z))) ≡ count_of e
-      unfolding count_of count_by count_meant
-      count_is =
-          let y : valued (pos natural.n) ≡ value_of e = ap valued (sym natural.same ∙ to_z-of_z w64 z f) ∙ is in
-          rw (natural.same, ← y)
+pub count_is : {E : Type 0} (e : Expr) (u : Result ℤ Refusal) (z : ℤ) (r : Result ℕ E) → value_meant u ≡ value_of e → result_ok u ≡ Some z → SFits w64 z → OkIff r (FitsUnsignedBits 64 (back z)) (nat_abs (back z)) → count_meant (result_ok r) ≡ count_of e
+unfolding count_of count_by count_meant value_meant
+count_is e (Err k) z r q n f c = absurd (true≢false (sym (ap is_some n)))
+count_is e (Ok y) z r q n f c =
+    let s : y ≡ z = ap (λ o. unwrap_or o z) n in
+    rw (← (sym (ap valued s) ∙ q)) (go z r f (rw (to_z-of_z w64 z f) at c))
+  where
+    go : {E : Type 0} (z : ℤ) (r : Result ℕ E) → SFits w64 z → OkIff r (FitsUnsignedBits 64 z) (nat_abs z) → count_meant (result_ok r) ≡ count_by (valued z)
+    go (pos n) (Ok x) f c = ap some c.1
+    go (pos n) (Err i) f c = absurd (c (omega (arith, f.sfits)))
+    go (negsuc n) (Ok x) f c = absurd c.0
+    go (negsuc n) (Err i) f c = refl

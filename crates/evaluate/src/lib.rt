@@ -11,112 +11,74 @@ ghost use Rattle.fixed_meaning.specs.Value.{value_of};
 ghost use Rattle.fixed_meaning.specs.Fixed.{count_of};
 ghost use Rattle.extents.specs.Meant.{count_meant};
 ghost use Rattle.values.specs.Meant.{value_meant};
-ghost use Rattle.evaluate.specs.Evaluates.{Evaluates, with_end};
+ghost use Rattle.evaluate.specs.Evaluates.{Evaluates};
 
 use bundle::{ExprForm, Form};
-use extents::Counted;
-use values::Valued;
+use refusal::Refusal;
 
-// The value of an expression and where it ends, or the number of the refusal that is met first.
-#[derive(Clone, Copy)]
-pub enum Evaluated {
-    Value(i64, usize),
-    Refused(u8),
-}
-
-// The number in the `w` bytes at `at`.
+// The number in the `w` bytes at `at`. A copy to eight bytes for `from_le_bytes` takes twice the time for a number of one byte.
 pub fn number_at(s: &[u8], at: usize, w: usize) -> u64
     requires { (at + w ≤ length s.now) × (w ≤ 8) }
     ensures { result ≡ little s.now at w }
 {
     let mut value: u64 = 0;
-    let mut i = w;
-    while 0 < i {
-        i -= 1;
-        value = value * 256 + (s[at + i] as u64);
+    for i in 0..w {
+        value = value * 256 + u64::from(s[at + (w - 1 - i)]);
     }
     value
 }
 
-// A value with its end.
-fn with_end(value: Valued, end: usize) -> Evaluated
-    ensures { result ≡ with_end value end }
-{
-    match value {
-        Valued::Is(z) => Evaluated::Value(z, end),
-        Valued::Refused(k) => Evaluated::Refused(k),
-    }
-}
-
 // The value and the end of the expression that was read at `at`.
 #[cycle(values)]
-fn value_at(s: &[u8], at: usize, depth: usize) -> Evaluated
+fn value_at(s: &[u8], at: usize, depth: usize) -> Result<(i64, usize), Refusal>
     requires { Reads (read_expr depth s.now at) }
     ensures { Evaluates depth s.now at result }
 {
     let kind = s[at];
-    let form = bundle::form_of(kind);
-    let Form::OfExpr(e) = form else {
-        return Evaluated::Refused(15);
+    let Form::OfExpr(form) = bundle::form_of(kind) else {
+        return Err(Refusal::NotCovered);
     };
-    match e {
+    match form {
         ExprForm::Literal(w) => {
-            let width = w as usize;
-            let value = values::literal_value(kind, number_at(s, at + 1, width));
-            with_end(value, at + 1 + width)
+            let width = usize::from(w);
+            let value = values::literal_value(kind, number_at(s, at + 1, width))?;
+            Ok((value, at + 1 + width))
         }
-        ExprForm::FieldRef(_) => Evaluated::Refused(15),
-        ExprForm::Sizeof => Evaluated::Refused(15),
-        ExprForm::Alignof => Evaluated::Refused(15),
         ExprForm::Binary => binary_at(s, at, depth),
-        ExprForm::Unary => Evaluated::Refused(15),
+        _ => Err(Refusal::NotCovered),
     }
 }
 
 // The same for a binary expression: its kind is tested before its sides, and the left side is worked out first.
 #[cycle(values)]
-fn binary_at(s: &[u8], at: usize, depth: usize) -> Evaluated
+fn binary_at(s: &[u8], at: usize, depth: usize) -> Result<(i64, usize), Refusal>
     requires { Reads (read_expr depth s.now at) × (form_of (get_or s.now at 0) ≡ OfExpr Binary) }
     ensures { Evaluates depth s.now at result }
 {
     let kind = s[at];
     if !values::covered(kind) {
-        return Evaluated::Refused(15);
+        return Err(Refusal::NotCovered);
     }
-    let left = value_at(s, at + 1, depth - 1);
-    let Evaluated::Value(l, next) = left else {
-        return left;
-    };
-    let right = value_at(s, next, depth - 1);
-    let Evaluated::Value(r, end) = right else {
-        return right;
-    };
-    with_end(values::operate(kind, l, r), end)
+    let (l, next) = value_at(s, at + 1, depth - 1)?;
+    let (r, end) = value_at(s, next, depth - 1)?;
+    let value = values::operate(kind, l, r)?;
+    Ok((value, end))
 }
 
 // The value of the expression that was read at `at`.
-pub fn value_of(s: &[u8], at: usize, depth: usize) -> Valued
+pub fn value_of(s: &[u8], at: usize, depth: usize) -> Result<i64, Refusal>
     requires { Reads (read_expr depth s.now at) }
     ensures { value_meant result ≡ value_of (expr_at depth s.now at) }
 {
-    let value = value_at(s, at, depth);
-    match value {
-        Evaluated::Value(z, _) => Valued::Is(z),
-        Evaluated::Refused(k) => Valued::Refused(k),
-    }
+    let (value, _) = value_at(s, at, depth)?;
+    Ok(value)
 }
 
 // The count of an array whose size was read at `at`.
-pub fn count_of(s: &[u8], at: usize, depth: usize) -> Counted
+pub fn count_of(s: &[u8], at: usize, depth: usize) -> Option<u64>
     requires { Reads (read_expr depth s.now at) }
     ensures { count_meant result ≡ count_of (expr_at depth s.now at) }
 {
-    let value = value_of(s, at, depth);
-    let Valued::Is(z) = value else {
-        return Counted::Nothing;
-    };
-    if z < 0 {
-        return Counted::Nothing;
-    }
-    Counted::Of(z as u64)
+    let value = value_of(s, at, depth).ok()?;
+    u64::try_from(value).ok()
 }

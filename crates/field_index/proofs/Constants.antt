@@ -1,18 +1,19 @@
 -- It is noted of one definition after the other whether it is an enum with variants of constant size.
---     constants_start, -next, -end   the walk over the definitions
+--     constants_next                 the walk over the definitions
 --     constants_stay                 it stays with the places before the starts of parts
+use Rattle.std.specs.Int.{from_bool}
 use Prim.Native.Nat.{ℕ, ◌+◌, ◌≤◌, ◌<◌}
 use native.Mathlib.Omega.{arith}
 use native.Mathlib.Decide.{dec_lt}
 use mathlib.Core.Bool.{Bool}
 use mathlib.Core.List.{List}
 use mathlib.Core.Logic.{by_cases}
-use mathlib.Core.Path.{◌≡◌, refl, ap, ◌∙◌}
+use mathlib.Core.Path.{◌≡◌, ap, ◌∙◌}
 use lib.ListN.{length, length-set, get_or, set}
 use lib.Seq.{get_or-set_same, get_or-set_other}
 use Rattle.meaning.specs.Sizes.{is_enum_with_constant_size_variants}
 use Rattle.bundle.specs.Definitions.{type_at, Table}
-use Rattle.field_index.specs.Noted.{constants_at, parts_at, constant_mark, ConstantsNoted, Front}
+use Rattle.field_index.specs.Noted.{constants_at, parts_at, ConstantsNoted, Front}
 use Rattle.field_index.proofs.Structs.{table_set}
 
 -- of the first i of n definitions it is noted
@@ -21,16 +22,13 @@ pub record Marking (s : List ℕ) (n : ℕ) (places₀ places : List ℕ) (i : �
   pub room : parts_at ≤ length places
   pub size : length places ≡ length places₀
   pub table : Table s n places
-  pub each : (j : ℕ) → j < i → get_or places (constants_at + j) 0 ≡ constant_mark (is_enum_with_constant_size_variants (type_at 24 s (get_or places j 0)))
-
-pub constants_start : {s : List ℕ} {n : ℕ} {places : List ℕ} → Table s n places → parts_at ≤ length places → Marking s n places places 0
-constants_start t l = record { bound = omega arith; room = l; size = refl; table = t; each = λ j c. absurd (omega arith) }
+  pub each : (j : ℕ) → j < i → get_or places (constants_at + j) 0 ≡ from_bool (is_enum_with_constant_size_variants (type_at 24 s (get_or places j 0)))
 
 module _ {s : List ℕ} {n : ℕ} {places₀ places : List ℕ} {i : ℕ} (o : Marking s n places₀ places i) where
   pub constants_small : i < n → i < 256
   constants_small l = omega (arith, o.table.count, o.table.placed.room)
 
-  pub constants_next : i < n → {b : Bool} → b ≡ is_enum_with_constant_size_variants (type_at 24 s (get_or places i 0)) → {v : ℕ} → v ≡ constant_mark b → Marking s n places₀ (set places (constants_at + i) v) (i + 1)
+  pub constants_next : i < n → {b : Bool} → b ≡ is_enum_with_constant_size_variants (type_at 24 s (get_or places i 0)) → {v : ℕ} → v ≡ from_bool b → Marking s n places₀ (set places (constants_at + i) v) (i + 1)
   constants_next l {b} e {v} q =
       let k = constants_at + i in
       let few = constants_small l in
@@ -45,11 +43,8 @@ module _ {s : List ℕ} {n : ℕ} {places₀ places : List ℕ} {i : ℕ} (o : M
             (by_cases (dec_lt j i) (λ (d : j < i). other (constants_at + j) (λ z. omega (arith, z)) ∙ o.each j d)
             (λ (d : ¬ (j < i)).
             let z : j ≡ i = omega arith in
-            rw z (get_or-set_same places k v 0 (omega (arith, few, o.room)) ∙ q ∙ ap constant_mark e)));
+            rw z (get_or-set_same places k v 0 (omega (arith, few, o.room)) ∙ q ∙ ap from_bool e)));
       }
-
-  pub constants_end : n ≤ i → ConstantsNoted s places n
-  constants_end l = record { size = omega (arith, o.room); each = λ j c. o.each j (omega arith) }
 
 pub constants_stay : {s : List ℕ} {n : ℕ} {places u : List ℕ} → n ≤ 256 → Front places u → ConstantsNoted s places n → ConstantsNoted s u n
 constants_stay few f o =

@@ -1,27 +1,27 @@
 -- Where the types of fields lead.
 --     lead_none, lead_some   what is noted of a type
---     lead_few               it is a small number
+--     first_or_count, lead_few   the number that is noted is small
+use Rattle.std.specs.Prelude.{Option, Some, None}
+use Rattle.std.specs.Option.{unwrap_or}
 use Prim.Native.Nat.{ℕ, suc, ◌+◌, ◌≤◌}
 use native.Mathlib.Omega.{arith}
 use mathlib.Core.Bool.{Bool, true, false, cond}
 use mathlib.Core.List.{List, [], ◌∷◌, map}
 use mathlib.Core.Path.{◌≡◌, sym, ap, ◌∙◌}
-use types.Run.{OneOf}
-use denote.Enum.Declared.{tag_of}
 use lib.Dec.{eqb}
 use lib.ListN.{length, length-map}
 use Rattle.names.specs.Names.{place}
 use Rattle.meaning.specs.Lookup.{as_type_ref, definition_of}
+use Rattle.bundle.specs.View.{FirstOf}
 use Rattle.bundle.specs.Definitions.{type_at, bundle_of, Table}
 use Rattle.fields.specs.declared.Shape.{Shape}
 use Rattle.fields.specs.declared.Shape.TheVariants as shape
 use Rattle.fields.specs.Shapes.{ShapeOf, ref_shown}
-use Rattle.fields.specs.contracts.Shape.{the_type}
 use Rattle.fields.proofs.ShapeLaws.{shape_ref, no_ref}
 use Rattle.field_index.specs.Noted.{lead_shown}
 
 module _ (at : ℕ) (s : List ℕ) (r : Shape) (g : ShapeOf 23 s at r) where
-  pub lead_none : OneOf (0 ∷ 1 ∷ 2 ∷ 4 ∷ []) (tag_of the_type r) → 0 ≡ lead_shown (bundle_of s) (as_type_ref (type_at 23 s at))
+  pub lead_none : ((n : ℕ) → r ≡ shape.TypeRef n → ⊥) → 0 ≡ lead_shown (bundle_of s) (as_type_ref (type_at 23 s at))
   lead_none o = ap (lead_shown (bundle_of s)) (sym (no_ref 23 at s r o g))
 
   pub lead_some : {x i : ℕ} → r ≡ shape.TypeRef x → i ≡ definition_of (bundle_of s) x → i + 1 ≡ lead_shown (bundle_of s) (as_type_ref (type_at 23 s at))
@@ -35,6 +35,14 @@ place_few (x ∷ xs) n = go (eqb n x) (place_few xs n)
     go true l = omega arith
     go false l = omega arith
 
-pub lead_few : {s : List ℕ} {count : ℕ} {places : List ℕ} → Table s count places → (x i : ℕ) → i ≡ definition_of (bundle_of s) x → i ≤ 256
-lead_few {s} t x i e =
-    omega (arith, e, t.count, t.placed.room, place_few (map (λ d. d.name) (bundle_of s).definitions) x, length-map (bundle_of s).definitions (λ d. d.name))
+-- the first definition of a name, or the count of definitions
+module _ {s : List ℕ} {count : ℕ} {places : List ℕ} (t : Table s count places) (x : ℕ) (o : Option ℕ) (f : FirstOf (bundle_of s) x o) where
+  pub first_or_count : unwrap_or o count ≡ definition_of (bundle_of s) x
+  first_or_count = go o f
+    where
+      go : (o : Option ℕ) → FirstOf (bundle_of s) x o → unwrap_or o count ≡ definition_of (bundle_of s) x
+      go (Some i) f = f.0
+      go None f = omega (arith, f, t.count, place_few (map (λ d. d.name) (bundle_of s).definitions) x, length-map (bundle_of s).definitions (λ d. d.name))
+
+  pub lead_few : unwrap_or o count ≤ 256
+  lead_few = omega (arith, first_or_count, t.count, t.placed.room, place_few (map (λ d. d.name) (bundle_of s).definitions) x, length-map (bundle_of s).definitions (λ d. d.name))

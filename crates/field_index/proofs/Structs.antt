@@ -1,16 +1,14 @@
 -- The structs are noted one after the other, each behind the parts of those before it.
 --     room_for, below_room   there is room for one more part, and for the references behind all of them
---     below_start, -none, -next, -end    the walk over the definitions
+--     below_none, -struct, -next    the walk over the definitions
 --     table_stays     what is said of the definitions stays
 use Prim.Native.Nat.{ℕ, zero, suc, ◌+◌, ◌-◌, ◌*◌, ◌≤◌, ◌<◌}
-use mathlib.Core.Path.{◌≡◌, refl, sym, ap, ap₂, subst, ◌∙◌}
+use mathlib.Core.Path.{◌≡◌, refl, sym, ap, ap₂, ◌∙◌}
 use mathlib.Core.Logic.{by_cases}
 use mathlib.Core.Option.{none}
-use mathlib.Core.List.{List, [], ◌∷◌}
+use mathlib.Core.List.{List, []}
 use native.Mathlib.Omega.{arith}
 use native.Mathlib.Decide.{dec_lt}
-use types.Run.{OneOf}
-use denote.Enum.Declared.{tag_of}
 use lib.ListN.{length, length-set, length-drop, get_or, set, take, drop}
 use lib.Seq.{get_or-set_same, get_or-set_other, get_or-drop}
 use Rattle.meaning.specs.Lookup.{list_of, as_struct}
@@ -18,12 +16,12 @@ use Rattle.meaning.specs.Tree.{Ty, primitive, type_ref, struct, union, enum, arr
 use Rattle.names.specs.Names.{inserts}
 use Rattle.bundle.specs.Definitions.{type_at, bundle_of, Table, places_end, definition_names, names_at, firsts_at, table_at, buckets}
 use Rattle.bundle.proofs.NameLaws.{table_few}
-use Rattle.bundle.proofs.LookupLaws.{place_there, place_ends}
+use Rattle.bundle.proofs.LookupLaws.{place_ends}
 use Rattle.sizes.specs.Scan.{references_from}
 use Rattle.sizes.proofs.ReferenceLaws.{type_bound}
 use Rattle.bundle.proofs.Parts.{members_none, members_length}
 use Rattle.fields.specs.declared.Shape.{Shape}
-use Rattle.fields.specs.contracts.Shape.{the_type}
+use Rattle.fields.specs.declared.Shape.TheVariants as shape
 use Rattle.fields.proofs.ShapeLaws.{shape_other}
 use Rattle.fields.specs.Shapes.{StructAt, ShapeOf}
 use Rattle.table.specs.Table.{Within}
@@ -42,7 +40,7 @@ no_fields (enum a tag ms) e = refl
 no_fields (array a jagged size element) e = refl
 no_fields (size_union a ms) e = refl
 
-pub shape_fields_lem : (at : ℕ) (s : List ℕ) (r : Shape) → OneOf (1 ∷ 2 ∷ 3 ∷ 4 ∷ []) (tag_of the_type r) → ShapeOf 24 s at r → struct_fields (type_at 24 s at) ≡ []
+pub shape_fields_lem : (at : ℕ) (s : List ℕ) (r : Shape) → ((n : ℕ) → r ≡ shape.Struct n → ⊥) → ShapeOf 24 s at r → struct_fields (type_at 24 s at) ≡ []
 shape_fields_lem at s r o g = no_fields (type_at 24 s at) (shape_other 24 at s r o g)
 
 pub struct_fields_lem : (at : ℕ) (s : List ℕ) {n : ℕ} → StructAt 24 s at n → struct_fields (type_at 24 s at) ≡ fields s (at + 12) n
@@ -50,19 +48,6 @@ struct_fields_lem at s g = rw g.tree refl
 
 pub struct_empty : (at : ℕ) (s : List ℕ) {n : ℕ} → StructAt 24 s at n → n ≡ 0 → struct_fields (type_at 24 s at) ≡ []
 struct_empty at s {n} g z = struct_fields_lem at s g ∙ ap list_of (members_none 23 0x50 s n (at + 12) z)
-
-pub below_start : {s : List ℕ} (places : List ℕ) → length s ≤ 32768 → 2 * parts_at + 3 * length s + 9 ≤ 2 * length places → NotedBelow s places 0 parts_at
-below_start places short size =
-    record {
-      below = record {
-        noted = record { size = omega arith; each = λ i l. absurd (omega arith); leads = λ i l _. absurd (omega arith); few = λ i l. absurd (omega arith) };
-        from = omega arith;
-        parts = λ i l _. absurd (omega arith);
-      };
-      room = omega arith;
-      size = size;
-      short = short;
-    }
 
 module _ {s : List ℕ} {count : ℕ} {places : List ℕ} (t : Table s count places) {i : ℕ} (l : i < count) {used : ℕ} (o : NotedBelow s places i used) where
   pub few : i < 256
@@ -74,9 +59,6 @@ module _ {s : List ℕ} {count : ℕ} {places : List ℕ} (t : Table s count pla
       ended : (i : ℕ) → end_before places i ≤ get_or places i 0
       ended zero = omega arith
       ended (suc i) = omega arith
-
-  pub used_small : (used < 65536) × (used ≤ length places)
-  used_small = (omega (arith, so_far, o.short, place_there t i l), omega (arith, so_far, o.size, place_there t i l))
 
   pub room_for : {n : ℕ} → StructAt 24 s (get_or places i 0) n → (used + 2 + 6 * n ≤ length places) × (used + 2 + 6 * n < 65536)
   room_for g = let h = struct_wide t l g in (omega (arith, h.1, so_far, o.size), omega (arith, h.1, so_far, o.short))
@@ -174,9 +156,6 @@ module _ {s : List ℕ} {count : ℕ} {places : List ℕ} (t : Table s count pla
       (omega (arith, ap length is, count, (struct_wide t l g).1)) (omega arith) (omega (arith, so_far, (struct_wide t l g).0))
       (λ _. rw (here, is, count) (o.below.from, omega arith))
 
-pub below_end : {s places : List ℕ} {n i used : ℕ} → i ≡ n → NotedBelow s places i used → NotedBelow s places n used
-below_end {s} {places} {used = used} e o = subst (λ k. NotedBelow s places k used) e o
-
 -- behind all parts there is room for three places for each reference
 pub below_room : {s : List ℕ} {n : ℕ} {places : List ℕ} {used : ℕ} → Table s n places → NotedBelow s places n used
     → (used + 3 * references_to s places n ≤ length places) × (used + 3 * references_to s places n < 65536)
@@ -220,10 +199,6 @@ table_within t l w = table_stays t w.size (λ i c. w.before i (omega arith))
 
 pub table_set : {s : List ℕ} {n : ℕ} {places : List ℕ} → Table s n places → (k v : ℕ) → places_end ≤ k → Table s n (set places k v)
 table_set {places = places} t k v l = table_stays t (length-set places k v) (λ i c. get_or-set_other places k i v 0 (λ z. omega (arith, z)))
-
--- what stays of the places before the starts of parts
-pub front_start : (places : List ℕ) → Front places places
-front_start places = record { size = refl; same = λ i c. refl }
 
 pub front_both : {t u v : List ℕ} → Front t u → Front u v → Front t v
 front_both a b = record { size = b.size ∙ a.size; same = λ i c. b.same i c ∙ a.same i c }

@@ -1,4 +1,5 @@
 -- A field takes four bytes at least and a reference two more, so that the notes of a bundle take at most three places for every two bytes.
+use Rattle.std.specs.Prelude.{Ok}
 use Prim.Native.Nat.{ℕ, zero, suc, ◌+◌, ◌-◌, ◌*◌, ◌≤◌, ◌<◌}
 use native.Mathlib.Omega.{arith}
 use mathlib.Core.Path.{◌≡◌, sym, ap, ◌∙◌}
@@ -8,7 +9,6 @@ use Rattle.meaning.specs.Limits.{depth_limit}
 use Rattle.meaning.specs.Reader.{many}
 use Rattle.meaning.specs.ReadType.{member_head, read_members, read_ty}
 use Rattle.meaning.specs.References.{collect_field_references_in_type_kind, references_in_members}
-use Rattle.bundle.specs.declared.Step.TheVariants.{Next}
 use Rattle.bundle.specs.View.{step_of}
 use Rattle.bundle.specs.Definitions.{type_at, members_at, Table}
 use Rattle.bundle.proofs.LookupLaws.{place_ends}
@@ -22,7 +22,7 @@ use Rattle.fields.specs.Shapes.{StructAt}
 use Rattle.field_index.specs.Noted.{references_of}
 
 -- as many references as the tree has
-counted : (s : List ℕ) (d at m : ℕ) → d ≤ depth_limit → Next m ≡ step_of (read_ty d s at)
+counted : (s : List ℕ) (d at m : ℕ) → d ≤ depth_limit → Ok m ≡ step_of (read_ty d s at)
     → length (references_from s at m) ≡ length (collect_field_references_in_type_kind (type_at d s at))
 counted s d at m l e = sym (length-map (references_from s at m) (path_at s)) ∙ ap length (type_references d at m s l e)
 
@@ -32,8 +32,8 @@ module _ (s : List ℕ) (d : ℕ) (l : d ≤ depth_limit) where
   Wide n at m = (at + 4 * n + 2 * length (references_in_members (members_at d 0x50 n s at)) ≤ m) × (m ≤ length s)
 
   -- the first of them
-  member_wide : (n at m : ℕ) → 0 < n → Next m ≡ step_of (read_members (read_ty d) 0x50 n s at)
-      → ((i : ℕ) → i ≤ length s → Next m ≡ step_of (read_members (read_ty d) 0x50 (n - 1) s i) → Wide (n - 1) i m) → Wide n at m
+  member_wide : (n at m : ℕ) → 0 < n → Ok m ≡ step_of (read_members (read_ty d) 0x50 n s at)
+      → ((i : ℕ) → i ≤ length s → Ok m ≡ step_of (read_members (read_ty d) 0x50 (n - 1) s i) → Wide (n - 1) i m) → Wide n at m
   member_wide n at m c e later =
       let r = ended_reads (read_members (read_ty d) 0x50 n s at) m e in
       let own = ended (member_head 0x50 s at) (own_reads d 0x50 s n at c r) in
@@ -45,7 +45,7 @@ module _ (s : List ℕ) (d : ℕ) (l : d ≤ depth_limit) where
       rw (members_split d 0x50 s n at c r own.0 own.1 type.0 type.1)
       (rw length-append (omega (arith, w.ends, here, k, rest.0)), rest.1)
 
-  members_wide : (n at m : ℕ) → at ≤ length s → Next m ≡ step_of (read_members (read_ty d) 0x50 n s at) → Wide n at m
+  members_wide : (n at m : ℕ) → at ≤ length s → Ok m ≡ step_of (read_members (read_ty d) 0x50 n s at) → Wide n at m
   unfolding many
   members_wide zero at m b e = let p : m ≡ at = cc in rw p (omega arith, b)
   members_wide (suc n) at m b e =
@@ -54,7 +54,7 @@ module _ (s : List ℕ) (d : ℕ) (l : d ≤ depth_limit) where
 
 -- where definition i stands, and where the next one would
 module _ {s : List ℕ} {count : ℕ} {places : List ℕ} (t : Table s count places) {i : ℕ} (l : i < count) where
-  ends : Next (get_or places (i + 1) 0 - 3) ≡ step_of (read_ty 24 s (get_or places i 0))
+  ends : Ok (get_or places (i + 1) 0 - 3) ≡ step_of (read_ty 24 s (get_or places i 0))
   ends = (place_ends t i l).1
 
   pub place_next : get_or places i 0 + 2 * length (references_of s places i) ≤ get_or places (i + 1) 0

@@ -1,7 +1,8 @@
 -- What is noted of the fields of structs: for each name that a field has, the indices of the first and the last such field; for each field
 -- where its type leads. Behind it there is to be room for the references, which are counted here.
-use Rattle.std.specs.Prelude.{ℕ, zero, suc, ◌+◌, ◌-◌, ◌*◌, ◌≤◌, ◌<◌, ◌≡◌, Bool, true, false, List, [], map, eqb, length, get_or}
-use Rattle.std.proofs.Math.Option.{Option, none, some}
+use Rattle.std.specs.Prelude.{ℕ, zero, suc, ◌+◌, ◌-◌, ◌*◌, ◌≤◌, ◌<◌, ◌≡◌, Bool, List, [], map, eqb, length, get_or, Option, Some, None, MatchOption}
+use Rattle.std.specs.Int.{from_bool}
+use Rattle.std.proofs.Math.Option as option
 use Rattle.meaning.specs.Lists.{first_index, last_index}
 use Rattle.meaning.specs.Lookup.{list_of, member_name, member_type, as_type_ref, definition_of}
 use Rattle.meaning.specs.Tree.{Ty, primitive, type_ref, struct, union, enum, array, size_union, Member, Bundle}
@@ -10,7 +11,8 @@ use Rattle.meaning.specs.Sizes.{is_enum_with_constant_size_variants}
 use Rattle.bundle.specs.Definitions.{type_at, bundle_of, places_end}
 use Rattle.sizes.specs.Scan.{references_from}
 use Rattle.tree.specs.Tree.{Tree, number_at}
-use Rattle.fields.specs.Sought.{named, shown}
+use Rattle.field_index.specs.declared.Noted.{Noted}
+use Rattle.fields.specs.Sought.{named}
 
 -- the name of field k
 abbrev pub field_name : List Member → ℕ → ℕ
@@ -53,9 +55,9 @@ pub record NotedPart (ms : List Member) (notes : List ℕ) (a : ℕ) : Type 0 wh
 
 -- one more than the number of the first definition of the name to which a TypeRef leads, or than the count of definitions where the name has
 -- none; 0 where the type is no TypeRef
-abbrev pub lead_shown : Bundle → Option ℕ → ℕ
-lead_shown b none = 0
-lead_shown b (some x) = definition_of b x + 1
+abbrev pub lead_shown : Bundle → option.Option ℕ → ℕ
+lead_shown b option.none = 0
+lead_shown b (option.some x) = definition_of b x + 1
 
 -- the same of each field
 abbrev pub leads_of : Bundle → List Member → List ℕ
@@ -65,11 +67,13 @@ leads_of b ms = map (λ m. lead_shown b (as_type_ref (member_type m))) ms
 abbrev pub lead_is : Bundle → ℕ → Member → Bool
 lead_is b x m = eqb x (lead_shown b (as_type_ref (member_type m)))
 
--- of the n places from `at` on, the last that holds x is the one before r; none does where r is 0
-pub record LastIn (t : List ℕ) (at n x r : ℕ) : Type 0 where
-  pub within : r ≤ n
-  pub here : 0 < r → get_or t (at + (r - 1)) 0 ≡ x
-  pub none : (j : ℕ) → r ≤ j → j < n → get_or t (at + j) 0 ≡ x → ⊥
+-- from k on, none of the n places at `at` holds x
+abbrev pub LacksFrom : List ℕ → ℕ → ℕ → ℕ → ℕ → Type 0
+LacksFrom t at n x k = (j : ℕ) → k ≤ j → j < n → get_or t (at + j) 0 ≡ x → ⊥
+
+-- k is the last of the n places from `at` on that hold x, and None where none does
+abbrev pub LastIn : List ℕ → ℕ → ℕ → ℕ → Option ℕ → Type 0
+LastIn t at n x o = MatchOption o (LacksFrom t at n x 0) (λ k. (k < n) × (get_or t (at + k) 0 ≡ x) × LacksFrom t at n x (k + 1))
 
 -- where this stands in a part at a for n fields
 abbrev pub leads_at : ℕ → ℕ → ℕ
@@ -84,10 +88,17 @@ pub record NotedFor (ms : List Member) (notes : List ℕ) (a : ℕ) : Type 0 whe
   pub none : a ≡ 0 → ms ≡ []
   pub part : 0 < a → NotedPart ms notes a
 
--- one more than the index of the first field of the name x, or of the last, and 0 where there is none
-abbrev pub index_shown : Bool → ℕ → List Member → ℕ
-index_shown false x ms = shown (first_index (named x) ms)
-index_shown true x ms = shown (last_index (named x) ms)
+-- how the code shows an index
+abbrev pub index_shown : option.Option ℕ → Option ℕ
+index_shown option.none = None
+index_shown (option.some i) = Some i
+
+-- at these places stand the indices of the first and the last of the fields ms that have the name x; None where no field has it
+abbrev pub NotedOf : List Member → List ℕ → ℕ → Option Noted → Type 0
+NotedOf ms notes x None = (first_index (named x) ms ≡ option.none) × (last_index (named x) ms ≡ option.none)
+NotedOf ms notes x (Some p) =
+    ((p.first < length notes) × (first_index (named x) ms ≡ option.some (get_or notes p.first 0)))
+    × (p.last < length notes) × (last_index (named x) ms ≡ option.some (get_or notes p.last 0))
 
 -- the fields of a type, none where it is no struct
 abbrev pub struct_fields : Ty → List Member
@@ -118,6 +129,10 @@ parts_at = starts_at + definition_limit + definition_limit + 1
 -- where the part of definition i starts
 abbrev pub part_start : List ℕ → ℕ → ℕ
 part_start places i = get_or places (starts_at + i) 0
+
+-- the fields of definition i are noted, whichever they are
+abbrev pub HasNotes : List ℕ → ℕ → Type 0
+HasNotes places i = (starts_at + i < length places) × ((ms : List Member) × NotedFor ms places (part_start places i))
 
 -- the references in definition i
 abbrev pub references_of : List ℕ → List ℕ → ℕ → List ℕ
@@ -154,15 +169,10 @@ pub record NotedBelow (s places : List ℕ) (n used : ℕ) : Type 0 where
   pub size : 2 * parts_at + 3 * length s + 9 ≤ 2 * length places
   pub short : length s ≤ 32768
 
--- how it is noted
-abbrev pub constant_mark : Bool → ℕ
-constant_mark true = 1
-constant_mark false = 0
-
--- it is noted of n definitions
+-- it is noted of n definitions, true as 1 and false as 0
 pub record ConstantsNoted (s places : List ℕ) (n : ℕ) : Type 0 where
   pub size : starts_at ≤ length places
-  pub each : (i : ℕ) → i < n → get_or places (constants_at + i) 0 ≡ constant_mark (is_enum_with_constant_size_variants (type_at 24 s (get_or places i 0)))
+  pub each : (i : ℕ) → i < n → get_or places (constants_at + i) 0 ≡ from_bool (is_enum_with_constant_size_variants (type_at 24 s (get_or places i 0)))
 
 -- that, and the fields of the definitions
 pub record DefinitionsNoted (s places : List ℕ) (n : ℕ) : Type 0 where

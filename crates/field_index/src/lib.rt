@@ -2,20 +2,21 @@
 // Behind those places stands for each definition whether it is an enum with variants of constant size; then for each where its part starts,
 // and 0 where it is no struct or has no field; then come the places where the lists of references start (crate notes), and then the parts.
 // A part has the count of fields and the count of their names, then for each name the index of the first field that has it, then for each
-// the index of the last, then a tree of the names, then for each field where its type leads.
+// the index of the last, then a tree of the names, then for each field where its type leads. All of it is numbers of 16 bits in the one
+// lent array, 0 where there is none: no heap, fixed memory.
 #![tactic(auto)]
 
-ghost use Rattle.std.specs.Prelude.{◌≡◌, cond, List, ◌+◌, ◌*◌, ◌≤◌, ◌<◌, length, get_or};
-ghost use Rattle.meaning.specs.Lists.{last_index};
+ghost use Rattle.std.specs.Prelude.{◌≡◌, IfSome, List, ◌+◌, ◌*◌, ◌≤◌, ◌<◌, length, get_or};
+ghost use Rattle.meaning.specs.Lists.{first_index, last_index};
 ghost use Rattle.meaning.specs.Lookup.{list_of, as_type_ref};
 ghost use Rattle.meaning.specs.Tree.{Member};
 ghost use Rattle.meaning.specs.ReadType.{read_ty, read_members};
 ghost use Rattle.bundle.specs.View.{Reads};
 ghost use Rattle.bundle.specs.Definitions.{type_at, members_at, bundle_of, Table};
-ghost use Rattle.fields.specs.Sought.{shown};
+ghost use Rattle.fields.specs.Sought.{named};
 ghost use Rattle.table.specs.Table.{Within};
 ghost use Rattle.tree.specs.Tree.{Tree};
-ghost use Rattle.field_index.specs.Noted.{field_name, tree_at, starts_at, parts_at, NotedTo, NotedPart, NotedFor, index_shown, lead_shown, leads_of, LeadsTo, lead_is, LastIn, fields_at, constant_mark, ConstantsNoted, FieldsNoted, NotedBelow, Front};
+ghost use Rattle.field_index.specs.Noted.{field_name, tree_at, parts_at, part_start, HasNotes, NotedTo, NotedPart, NotedFor, index_shown, NotedOf, lead_shown, leads_of, LeadsTo, lead_is, LastIn, fields_at, ConstantsNoted, FieldsNoted, NotedBelow, Front};
 
 use fields::Shape;
 
@@ -31,24 +32,15 @@ pub const LISTS_AT: usize = STARTS_AT + bundle::DEFINITIONS;
 // Where the parts start.
 pub const PARTS_AT: usize = LISTS_AT + bundle::DEFINITIONS + 1;
 
-// How it is noted whether a definition is an enum with variants of constant size.
-fn constant_mark(constant: bool) -> u16
-    ensures { result ≡ constant_mark constant }
-{
-    if constant { 1 } else { 0 }
-}
-
 // Notes of every definition whether it is an enum with variants of constant size.
 pub fn note_constants(s: &[u8], places: &mut [u16], count: usize)
     requires { Table s.now count places.old × (parts_at ≤ length places.old) }
     ensures { Table s.now count places.new × ConstantsNoted s.now places.new count }
 {
-    let mut i = 0;
-    while i < count {
+    for i in 0..count {
         let at = places[i] as usize;
         let constant = sizes::is_enum_with_constant_size_variants(s, at, bundle::DEPTH_LIMIT);
-        places[CONSTANTS_AT + i] = constant_mark(constant);
-        i += 1;
+        places[CONSTANTS_AT + i] = u16::from(constant);
     }
 }
 
@@ -68,7 +60,7 @@ fn note_name(notes: &mut [u16], a: usize, n: usize, d: usize, k: usize, x: u16) 
 }
 
 // One more than the number of the first definition of the name to which the type at `at`, a TypeRef, leads, or than the count of definitions
-// where the name has none; 0 for other types.
+// where the name has none; 0 for other types. It is no `Option` since it is noted so: its place has 16 bits.
 fn lead_at(s: &[u8], places: &[u16], count: usize, at: usize) -> usize
     requires { Table s.now count places.now × Reads (read_ty 23 s.now at) }
     ensures { (result ≡ lead_shown (bundle_of s.now) (as_type_ref (type_at 23 s.now at))) × (result ≤ 257) }
@@ -77,7 +69,7 @@ fn lead_at(s: &[u8], places: &[u16], count: usize, at: usize) -> usize
     let Shape::TypeRef(x) = shape else {
         return 0;
     };
-    lookup::definition_of(s, places, count, x) + 1
+    lookup::definition_of(s, places, count, x).unwrap_or(count) + 1
 }
 
 // Notes the `n` fields that were read at `at` in the part at `a`.
@@ -89,14 +81,12 @@ fn note_fields(s: &[u8], count: usize, at: usize, n: usize, notes: &mut [u16], a
     notes[a] = n as u16;
     let mut next = at;
     let mut d = 0;
-    let mut k = 0;
-    while k < n {
+    for k in 0..n {
         let field = fields::field_at(s, next, bundle::DEPTH_INSIDE);
         d = note_name(notes, a, n, d, k, field.name);
         let lead = lead_at(s, notes, count, field.at);
         notes[a + 2 + 5 * n + k] = lead as u16;
         next = field.next;
-        k += 1;
     }
     notes[a + 1] = d as u16;
 }
@@ -127,75 +117,84 @@ pub fn note_structs(s: &[u8], places: &mut [u16], count: usize) -> usize
     ensures { Table s.now count places.new × NotedBelow s.now places.new count result × Front places.old places.new }
 {
     let mut used = PARTS_AT;
-    let mut i = 0;
-    while i < count {
+    for i in 0..count {
         used = note_struct(s, places, count, i, used);
-        i += 1;
     }
     used
 }
 
-// What the part at `a` of `n` fields says of the name at place `r`: one more than the index of the first field that has it, or of the last
-// where `last` is set.
-fn index_at(notes: &[u16], a: usize, n: usize, r: usize, last: bool) -> usize
-    requires { (a + 2 + 2 * n ≤ length notes.now) × (r < n) }
-    ensures { result ≡ get_or notes.now (cond last (a + 2 + n + r) (a + 2 + r)) 0 + 1 }
-{
-    if last {
-        return notes[a + 2 + n + r] as usize + 1;
-    }
-    notes[a + 2 + r] as usize + 1
+// Where it stands which field is the first that has a name, and which is the last.
+#[derive(Clone, Copy)]
+struct Noted {
+    first: usize,
+    last: usize,
 }
 
-// The same of the name `x`, and 0 where no field has it.
-fn index_in(notes: &[u16], a: usize, n: usize, d: usize, last: bool, x: u16) -> usize
+// Where that of the name `x` stands in the part at `a` of `n` fields with `d` names, if a field has it.
+fn noted_in(notes: &[u16], a: usize, n: usize, d: usize, x: u16) -> Option<Noted>
     requires { (a + 2 + 5 * n ≤ length notes.now) × (d ≤ n) × Tree notes.now (tree_at a n) d }
-    ensures { (ms : List Member) → NotedPart ms notes.now a → get_or notes.now a 0 ≡ n → get_or notes.now (a + 1) 0 ≡ d → result ≡ index_shown last x ms }
+    ensures { (ms : List Member) → NotedPart ms notes.now a → get_or notes.now a 0 ≡ n → get_or notes.now (a + 1) 0 ≡ d → NotedOf ms notes.now x result }
 {
-    let r = tree::place_of(notes, a + 2 + 2 * n, d, x);
-    if r == d {
-        return 0;
-    }
-    index_at(notes, a, n, r, last)
+    let r = tree::place_of(notes, a + 2 + 2 * n, d, x)?;
+    Some(Noted {
+        first: a + 2 + r,
+        last: a + 2 + n + r,
+    })
 }
 
 // The same of definition `i`.
-pub fn index_of(places: &[u16], i: usize, last: bool, x: u16) -> usize
-    requires { (starts_at + i < length places.now) × ((ms : List Member) × NotedFor ms places.now (get_or places.now (starts_at + i) 0)) }
-    ensures { (ms : List Member) → NotedFor ms places.now (get_or places.now (starts_at + i) 0) → result ≡ index_shown last x ms }
+fn noted_of(places: &[u16], i: usize, x: u16) -> Option<Noted>
+    requires { HasNotes places.now i }
+    ensures { (ms : List Member) → NotedFor ms places.now (part_start places.now i) → NotedOf ms places.now x result }
 {
     let a = places[STARTS_AT + i] as usize;
     if a == 0 {
-        return 0;
+        return None;
     }
     let n = places[a] as usize;
     let d = places[a + 1] as usize;
-    index_in(places, a, n, d, last, x)
+    noted_in(places, a, n, d, x)
 }
 
-// One more than the index of the last of the `n` places at `at` that hold `x`, and 0 where none does.
-fn last_in(t: &[u16], at: usize, n: usize, x: usize) -> usize
+// The index of the first field of definition `i` that has the name `x`, if one has it.
+pub fn first_index_of(places: &[u16], i: usize, x: u16) -> Option<usize>
+    requires { HasNotes places.now i }
+    ensures { (ms : List Member) → NotedFor ms places.now (part_start places.now i) → result ≡ index_shown (first_index (named x) ms) }
+{
+    let noted = noted_of(places, i, x)?;
+    Some(places[noted.first] as usize)
+}
+
+// The index of the last field of definition `i` that has the name `x`, if one has it.
+pub fn last_index_of(places: &[u16], i: usize, x: u16) -> Option<usize>
+    requires { HasNotes places.now i }
+    ensures { (ms : List Member) → NotedFor ms places.now (part_start places.now i) → result ≡ index_shown (last_index (named x) ms) }
+{
+    let noted = noted_of(places, i, x)?;
+    Some(places[noted.last] as usize)
+}
+
+// Which is the last of the `n` places at `at` that hold `x`, if one does.
+fn last_in(t: &[u16], at: usize, n: usize, x: usize) -> Option<usize>
     requires { at + n ≤ length t.now }
     ensures { LastIn t.now at n x result }
 {
-    let mut k = n;
-    while k != 0 {
-        if t[at + (k - 1)] as usize == x {
-            return k;
+    for k in (0..n).rev() {
+        if t[at + k] as usize == x {
+            return Some(k);
         }
-        k -= 1;
     }
-    0
+    None
 }
 
-// One more than the index of the last field of definition `i` that leads where `lead` says, and 0 where there is none.
-pub fn last_lead(s: &[u8], places: &[u16], count: usize, i: usize, lead: usize) -> usize
+// The index of the last field of definition `i` that leads where `lead` says, as that is noted, if there is one.
+pub fn last_lead(s: &[u8], places: &[u16], count: usize, i: usize, lead: usize) -> Option<usize>
     requires { Table s.now count places.now × FieldsNoted s.now places.now count × (i < count) }
-    ensures { (result ≡ shown (last_index (lead_is (bundle_of s.now) lead) (fields_at s.now places.now i))) × (4 * result ≤ length s.now) }
+    ensures { (result ≡ index_shown (last_index (lead_is (bundle_of s.now) lead) (fields_at s.now places.now i))) × IfSome result (λ k. 4 * (k + 1) ≤ length s.now) }
 {
     let a = places[STARTS_AT + i] as usize;
     if a == 0 {
-        return 0;
+        return None;
     }
     let n = places[a] as usize;
     last_in(places, a + 2 + 5 * n, n, lead)

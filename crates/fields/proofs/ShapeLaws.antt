@@ -1,12 +1,11 @@
 -- A type or field that was read, as its shape shows it.
+use Rattle.std.specs.Prelude.{Ok}
 use Prim.Native.Nat.{ℕ, ◌+◌, ◌-◌, ◌≤◌}
 use native.Mathlib.Omega.{arith}
 use mathlib.Core.Bool.{true, false≢true}
 use mathlib.Core.Option.{none}
-use types.Run.{OneOf, miss}
-use denote.Enum.Declared.{tag_of}
 use mathlib.Core.Path.{◌≡◌, refl, sym, ap, subst, ◌∙◌}
-use mathlib.Core.List.{List, [], ◌∷◌}
+use mathlib.Core.List.{List}
 use lib.ListN.{length, get_or}
 use borrow.Author.Tests.{eq-eqb}
 use Rattle.meaning.specs.Kinds.{Form, OfType, OfMember, form_of, lookup, Primitive, TypeRef, Struct, Union, Enum, Array, SizeUnion}
@@ -16,13 +15,11 @@ use Rattle.meaning.specs.Reader.{Read, ok, refused, due, little}
 use Rattle.meaning.specs.ReadExpr.{body, read_expr}
 use Rattle.meaning.specs.ReadType.{head, member_head, member_body, read_member, read_members, read_ty}
 use Rattle.meaning.proofs.Readings.{due_ok, there}
-use Rattle.bundle.specs.declared.Count.TheVariants.{Of}
-use Rattle.bundle.specs.declared.Step.TheVariants.{Next, Refused}
 use Rattle.bundle.specs.View.{step_of, count_of, Reads, value_or}
 use Rattle.bundle.specs.Definitions.{type_at, members_at, zero_group}
 use Rattle.bundle.specs.Expressions.{expr_at}
 use Rattle.bundle.proofs.ExprLaws.{Opened}
-use Rattle.bundle.proofs.Trees.{ended, ended_reads, refused_no, first_read}
+use Rattle.bundle.proofs.Trees.{ended, ended_reads, first_read}
 use Rattle.bundle.proofs.TypeLaws.{primitive_ends, type_ref_ends, member_type_lem}
 use Rattle.bundle.proofs.TypeTrees.{primitive_tree, type_ref_reads, type_ref_tree, union_tree, size_union_tree, member_reads, member_value}
 use Rattle.bundle.proofs.Heads.{body_where, member_where}
@@ -30,7 +27,6 @@ use Rattle.bundle.proofs.Parts.{struct_parts, enum_at, array_at}
 use Rattle.fields.specs.declared.Shape.{Shape}
 use Rattle.fields.specs.declared.Shape.TheVariants as shape
 use Rattle.fields.specs.Shapes.{StructAt, EnumAt, ArrayAt, is_plain, ShapeOf, ref_shown, FieldAt}
-use Rattle.fields.specs.contracts.Shape.{the_type}
 
 -- a name that was read
 name_read : (at : ℕ) (s : List ℕ) → Reads (body 2 s at) → value_or 0 (body 2 s at) ≡ little s at 2
@@ -54,7 +50,7 @@ module _ {d at : ℕ} {s : List ℕ} {f : Form} (o : Opened d at s f) (r : Reads
   pub type_ref_is : f ≡ OfType TypeRef → type_at d s at ≡ type_ref (little s (at + 1) 2)
   type_ref_is p = type_ref_tree o r p ∙ ap type_ref (name_read (at + 1) s (type_ref_reads o r p))
 
-  pub struct_is : (n i : ℕ) → f ≡ OfType Struct → Of n i ≡ count_of (head 2 s (at + 1)) → StructAt d s at n
+  pub struct_is : (n i : ℕ) → f ≡ OfType Struct → Ok (n, i) ≡ count_of (head 2 s (at + 1)) → StructAt d s at n
   struct_is n i p c =
       let g = struct_parts o r n i p c in
       record {
@@ -82,7 +78,7 @@ module _ {d at : ℕ} {s : List ℕ} {f : Form} (o : Opened d at s f) (r : Reads
       record {
         attributes = g.parts.attributes;
         element = g.j;
-        size = subst (λ i. Next g.j ≡ step_of (read_expr (d - 1) s i)) g.parts.start g.size;
+        size = subst (λ i. Ok g.j ≡ step_of (read_expr (d - 1) s i)) g.parts.start g.size;
         reads = g.parts.reads;
         tree =
             subst (λ i. type_at d s at ≡ array g.parts.attributes (get_or s (at + 10) 0) (expr_at (d - 1) s i) (type_at (d - 1) s g.j)) g.parts.start
@@ -92,7 +88,7 @@ module _ {d at : ℕ} {s : List ℕ} {f : Form} (o : Opened d at s f) (r : Reads
       }
 
 -- the name of a member, whose own record ended at i
-member_name_lem : (k at i : ℕ) (s : List ℕ) → Next i ≡ step_of (member_head k s at) → (value_or (0, 0) (member_head k s at)).0 ≡ little s (at + 1) 2
+member_name_lem : (k at i : ℕ) (s : List ℕ) → Ok i ≡ step_of (member_head k s at) → (value_or (0, 0) (member_head k s at)).0 ≡ little s (at + 1) 2
 unfolding member_head member_body
 member_name_lem k at i s e =
     let m = member_where k at i s e in
@@ -102,29 +98,26 @@ member_name_lem k at i s e =
 
 -- where a type ends, by its form
 module _ {d at : ℕ} {s : List ℕ} {f : Form} (o : Opened d at s f) (r : Reads (read_ty d s at)) where
-  pub primitive_end : f ≡ OfType Primitive → Next (at + 1) ≡ step_of (read_ty d s at)
+  pub primitive_end : f ≡ OfType Primitive → Ok (at + 1) ≡ step_of (read_ty d s at)
   primitive_end p = sym (primitive_ends o p)
 
-  pub type_ref_end : f ≡ OfType TypeRef → (Next (at + 3) ≡ step_of (read_ty d s at)) × (at + 3 ≤ length s)
+  pub type_ref_end : f ≡ OfType TypeRef → (Ok (at + 3) ≡ step_of (read_ty d s at)) × (at + 3 ≤ length s)
   type_ref_end p =
       let e = ended (read_ty d s at) r in
       let b = body_where 2 (at + 1) e.0 s (e.1 ∙ type_ref_ends o p) in
       let q : e.0 ≡ at + 3 = omega (arith, b.0) in
-      (ap Next (sym q) ∙ e.1, omega (arith, b.1))
-
-pub type_no : (d at k : ℕ) (s : List ℕ) → Reads (read_ty d s at) → Refused k ≡ step_of (read_ty d s at) → ⊥
-type_no d at k s r g = refused_no (read_ty d s at) k r (sym g)
+      (ap Ok (sym q) ∙ e.1, omega (arith, b.1))
 
 -- a field
 module _ (d at : ℕ) (s : List ℕ) (r : Reads (read_member (read_ty d) 0x50 s at)) where
-  own : (Next (at + 3) ≡ step_of (member_head 0x50 s at)) × (at + 3 ≤ length s)
+  own : (Ok (at + 3) ≡ step_of (member_head 0x50 s at)) × (at + 3 ≤ length s)
   unfolding read_member lookup
   own =
       let h = ended (member_head 0x50 s at) (first_read s _ (member_head 0x50 s at) r) in
       let m = member_where 0x50 at h.0 s h.1 in
       let w : m.width ≡ 0 = width m.width (sym m.form ∙ ap form_of m.kind) in
       let q : h.0 ≡ at + 3 = omega (arith, m.ends, w) in
-      (ap Next (sym q) ∙ h.1, omega (arith, m.bound, q))
+      (ap Ok (sym q) ∙ h.1, omega (arith, m.bound, q))
     where
       width : (w : ℕ) → OfMember w ≡ form_of 0x50 → w ≡ 0
       width w e = cc
@@ -136,7 +129,7 @@ module _ (d at : ℕ) (s : List ℕ) (r : Reads (read_member (read_ty d) 0x50 s 
   field_reads = member_reads (read_ty d) 0x50 s at (at + 3) own.0 r
 
   -- whose type ended at j
-  pub field_is : (j x : ℕ) → Next j ≡ step_of (read_ty d s (at + 3)) → x ≡ little s (at + 1) 2 → FieldAt d s at (record { name = x; at = at + 3; next = j })
+  pub field_is : (j x : ℕ) → Ok j ≡ step_of (read_ty d s (at + 3)) → x ≡ little s (at + 1) 2 → FieldAt d s at (record { name = x; at = at + 3; next = j })
   field_is j x g n = record {
     reads = field_reads;
     ends = g ∙ sym (member_type_lem (read_expr 0) (read_ty d) s at 0x50 (at + 3) own.0);
@@ -163,11 +156,11 @@ shape_ref d at s (shape.Array jagged) g = rw g.tree
 shape_ref d at s (shape.TypeRef n) g = rw g
 shape_ref d at s shape.Plain g = plain_ref (type_at d s at) g
 
-pub no_ref : (d at : ℕ) (s : List ℕ) (r : Shape) → OneOf (0 ∷ 1 ∷ 2 ∷ 4 ∷ []) (tag_of the_type r) → ShapeOf d s at r → as_type_ref (type_at d s at) ≡ none
+pub no_ref : (d at : ℕ) (s : List ℕ) (r : Shape) → ((n : ℕ) → r ≡ shape.TypeRef n → ⊥) → ShapeOf d s at r → as_type_ref (type_at d s at) ≡ none
 no_ref d at s (shape.Struct n) o g = shape_ref d at s (shape.Struct n) g
 no_ref d at s shape.Enum o g = shape_ref d at s shape.Enum g
 no_ref d at s (shape.Array jagged) o g = shape_ref d at s (shape.Array jagged) g
-no_ref d at s (shape.TypeRef n) o g = absurd (miss (0 ∷ 1 ∷ 2 ∷ 4 ∷ []) 3 tt o)
+no_ref d at s (shape.TypeRef n) o g = absurd (o n refl)
 no_ref d at s shape.Plain o g = shape_ref d at s shape.Plain g
 
 -- the fields of a struct, by its shape
@@ -180,8 +173,8 @@ plain_struct (enum a tag ms) e = refl
 plain_struct (array a jagged size element) e = refl
 plain_struct (size_union a ms) e = refl
 
-pub shape_other : (d at : ℕ) (s : List ℕ) (r : Shape) → OneOf (1 ∷ 2 ∷ 3 ∷ 4 ∷ []) (tag_of the_type r) → ShapeOf d s at r → as_struct (type_at d s at) ≡ none
-shape_other d at s (shape.Struct n) o g = absurd (miss (1 ∷ 2 ∷ 3 ∷ 4 ∷ []) 0 tt o)
+pub shape_other : (d at : ℕ) (s : List ℕ) (r : Shape) → ((n : ℕ) → r ≡ shape.Struct n → ⊥) → ShapeOf d s at r → as_struct (type_at d s at) ≡ none
+shape_other d at s (shape.Struct n) o g = absurd (o n refl)
 shape_other d at s shape.Enum o g = rw g.tree
 shape_other d at s (shape.Array jagged) o g = rw g.tree
 shape_other d at s (shape.TypeRef n) o g = rw g

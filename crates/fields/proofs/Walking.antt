@@ -1,7 +1,6 @@
 -- Walking over the fields of a struct.
 use Prim.Native.Nat.{ℕ, ◌-◌, ◌≤◌, ◌<◌}
 use native.Mathlib.Omega.{arith}
-use mathlib.Core.Option.{none as nothing}
 use mathlib.Core.Path.{◌≡◌, sym, ap, subst, ◌∙◌}
 use mathlib.Core.List.{List}
 use Rattle.meaning.specs.Tree.{primitive, Member, member, none, more}

@@ -1,18 +1,16 @@
 -- What the shapes, fields and places that the code answers say of the tree.
+use Rattle.std.specs.Prelude.{Ok}
 use Rattle.std.specs.Prelude.{ℕ, ◌+◌, ◌-◌, ◌≤◌, ◌<◌, Bool, true, false, List, ◌≡◌, length, get_or}
 use Rattle.std.proofs.Math.Option.{Option, none, some}
 use Rattle.fields.specs.declared.Shape.{Shape}
 use Rattle.fields.specs.declared.Shape.TheVariants as shape
 use Rattle.fields.specs.declared.Field.{Field}
 use Rattle.fields.specs.declared.Place.{Place}
-use Rattle.fields.specs.declared.Definition.{Definition}
-use Rattle.fields.specs.declared.Definition.TheVariants as definition
 use Rattle.meaning.specs.Lookup.{definition_of, find_type}
 use Rattle.meaning.specs.Tree.{Attributes, Ty, primitive, type_ref, struct, union, enum, array, size_union, Member, member, Members}
 use Rattle.meaning.specs.Reader.{little}
 use Rattle.meaning.specs.ReadExpr.{read_expr}
 use Rattle.meaning.specs.ReadType.{read_ty, read_member, read_members}
-use Rattle.bundle.specs.declared.Step.TheVariants.{Next}
 use Rattle.bundle.specs.View.{step_of, Reads, value_or}
 use Rattle.bundle.specs.Definitions.{type_at, members_at, bundle_of}
 use Rattle.bundle.specs.Expressions.{expr_at}
@@ -37,7 +35,7 @@ pub record EnumAt (d : ℕ) (s : List ℕ) (at : ℕ) : Type 0 where
 pub record ArrayAt (d : ℕ) (s : List ℕ) (at jagged : ℕ) : Type 0 where
   pub attributes : Attributes
   pub element : ℕ
-  pub size : Next element ≡ step_of (read_expr (d - 1) s (at + 11))
+  pub size : Ok element ≡ step_of (read_expr (d - 1) s (at + 11))
   pub reads : Reads (read_ty (d - 1) s element)
   pub tree : type_at d s at ≡ array attributes jagged (expr_at (d - 1) s (at + 11)) (type_at (d - 1) s element)
   pub byte : jagged ≡ get_or s (at + 10) 0
@@ -72,7 +70,7 @@ ref_shown shape.Plain = none
 -- the field at a position: its name, where its type starts and where that ends
 pub record FieldAt (d : ℕ) (s : List ℕ) (at : ℕ) (f : Field) : Type 0 where
   pub reads : Reads (read_ty d s f.at)
-  pub ends : Next f.next ≡ step_of (read_member (read_ty d) 0x50 s at)
+  pub ends : Ok f.next ≡ step_of (read_member (read_ty d) 0x50 s at)
   pub value : ℕ
   pub is : (z : Member) → value_or z (read_member (read_ty d) 0x50 s at) ≡ member f.name value (type_at d s f.at)
 
@@ -87,8 +85,3 @@ pub record DefinitionIs (s : List ℕ) (n x i at : ℕ) : Type 0 where
   pub below : i < n
   pub reads : Reads (read_ty 24 s at)
   pub is : find_type (bundle_of s) x ≡ some (type_at 24 s at)
-
--- what is answered to a search for the first definition of the name x among n
-abbrev pub Defines : List ℕ → ℕ → ℕ → Definition → Type 0
-Defines s n x (definition.At i at) = DefinitionIs s n x i at
-Defines s n x definition.Nowhere = find_type (bundle_of s) x ≡ none

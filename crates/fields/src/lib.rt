@@ -1,14 +1,13 @@
 // Types, fields and definitions of an opened bundle by their positions.
 #![tactic(auto)]
 
-ghost use Rattle.std.specs.Prelude.{◌≡◌, ◌<◌, get_or};
+ghost use Rattle.std.specs.Prelude.{Ok, ◌≡◌, ◌<◌, get_or};
 ghost use Rattle.meaning.specs.ReadType.{read_ty, read_member};
-ghost use Rattle.bundle.specs.declared.Step.TheVariants.{Next};
 ghost use Rattle.bundle.specs.View.{Reads, step_of};
 ghost use Rattle.bundle.specs.Definitions.{Table};
-ghost use Rattle.fields.specs.Shapes.{ShapeOf, FieldAt, PlacedAt, Defines};
+ghost use Rattle.fields.specs.Shapes.{ShapeOf, FieldAt, PlacedAt};
 
-use bundle::{Count, Form, Step, TypeForm};
+use bundle::{Form, TypeForm};
 
 // What a type's kind byte and body say: the count of a struct's fields, an array's jagged byte, a TypeRef's name.
 #[derive(Clone, Copy)]
@@ -40,21 +39,16 @@ pub fn shape_at(s: &[u8], at: usize, depth: usize) -> Shape
     requires { Reads (read_ty depth s.now at) }
     ensures { ShapeOf depth s.now at result }
 {
-    let kind = s[at];
-    let form = bundle::form_of(kind);
-    let Form::OfType(t) = form else {
+    let Form::OfType(t) = bundle::form_of(s[at]) else {
         return Shape::Plain;
     };
     match t {
         TypeForm::Primitive => Shape::Plain,
         TypeForm::TypeRef => Shape::TypeRef(bundle::u16_at(s, at + 1)),
-        TypeForm::Struct => {
-            let count = bundle::count_at(s, at + 1);
-            match count {
-                Count::Of(n, _) => Shape::Struct(n),
-                Count::Wrong(_) => Shape::Plain,
-            }
-        }
+        TypeForm::Struct => match bundle::count_at(s, at + 1) {
+            Ok((n, _)) => Shape::Struct(n),
+            Err(_) => Shape::Plain,
+        },
         TypeForm::Union => Shape::Plain,
         TypeForm::Enum => Shape::Enum,
         TypeForm::Array => Shape::Array(s[at + 10]),
@@ -65,23 +59,17 @@ pub fn shape_at(s: &[u8], at: usize, depth: usize) -> Shape
 // Where the type that was read at `at` ends, by reading it again.
 fn read_again(s: &[u8], at: usize, depth: usize) -> usize
     requires { Reads (read_ty depth s.now at) }
-    ensures { Next result ≡ step_of (read_ty depth s.now at) }
+    ensures { Ok result ≡ step_of (read_ty depth s.now at) }
 {
-    let step = bundle::type_at(s, at, depth);
-    match step {
-        Step::Next(next) => next,
-        Step::Refused(_) => at,
-    }
+    bundle::type_at(s, at, depth).unwrap_or(at)
 }
 
 // Where the type that was read at `at` ends: a primitive or a TypeRef, as most fields are, behind its own record.
 fn type_end(s: &[u8], at: usize, depth: usize) -> usize
     requires { Reads (read_ty depth s.now at) }
-    ensures { Next result ≡ step_of (read_ty depth s.now at) }
+    ensures { Ok result ≡ step_of (read_ty depth s.now at) }
 {
-    let kind = s[at];
-    let form = bundle::form_of(kind);
-    let Form::OfType(t) = form else {
+    let Form::OfType(t) = bundle::form_of(s[at]) else {
         return at;
     };
     match t {
@@ -119,28 +107,8 @@ pub fn place_of(s: &[u8], places: &[u16], count: usize, i: usize) -> Place
 // Where the type of definition i ends: 3 bytes before the next place.
 pub fn end_of(s: &[u8], places: &[u16], count: usize, i: usize) -> usize
     requires { Table s.now count places.now × (i < count) }
-    ensures { Next result ≡ step_of (read_ty 24 s.now (get_or places.now i 0)) }
+    ensures { Ok result ≡ step_of (read_ty 24 s.now (get_or places.now i 0)) }
 {
     let next = places[i + 1] as usize;
     next - 3
-}
-
-// The first definition of a name: its number, and where its type starts.
-#[derive(Clone, Copy)]
-pub enum Definition {
-    At(usize, usize),
-    Nowhere,
-}
-
-// The first definition of the name.
-pub fn find_definition(s: &[u8], places: &[u16], count: usize, name: u16) -> Definition
-    requires { Table s.now count places.now }
-    ensures { Defines s.now count name result }
-{
-    let i = lookup::definition_of(s, places, count, name);
-    if count <= i {
-        return Definition::Nowhere;
-    }
-    let place = place_of(s, places, count, i);
-    Definition::At(i, place.at)
 }

@@ -1,13 +1,11 @@
 -- What a call for a chain answers for the edges of a bundle.
 --     lists_prepared         over prepared edges
---     zeros                  every place of a new list is 0
 --     called, turned_down    the call for an accepted bundle, and for bytes that are refused
-use Prim.Native.Nat.{ℕ, zero, suc}
+use Prim.Native.Nat.{ℕ}
 use mathlib.Core.Path.{◌≡◌, refl, sym, ap, subst, ◌∙◌}
 use mathlib.Core.Bool.{false}
 use mathlib.Core.List.{List, [], ◌∷◌}
 use mathlib.Core.Option.{Option}
-use lib.ListN.{get_or, replicate}
 use Rattle.meaning.specs.Tree.{Bundle}
 use Rattle.meaning.specs.Chain.{Graph, chain_of}
 use Rattle.meaning.specs.Circle.{circles}
@@ -25,15 +23,12 @@ use Rattle.chain.specs.Edges.{graph_at, turned}
 use Rattle.chain.specs.Index.{named, Prepared}
 use Rattle.chain.proofs.Edges.{graph_read}
 use Rattle.chain.proofs.Named.{prepared_same}
-use Rattle.search_from.specs.declared.Listing.{Listing}
-use Rattle.search_from.specs.declared.Listing.TheVariants.{Refused}
+use Rattle.std.specs.Prelude.{Result, Err}
+use Rattle.refusal.specs.declared.Refusal.{Refusal}
+use Rattle.refusal.specs.Numbers.{number}
+use Rattle.search_from.specs.declared.Listed.{Listed}
 use Rattle.search_from.specs.Listing.{answer_meant, CountIs, Lists}
 use Rattle.find_chain.specs.ChainCall.{ChainCall}
-
-pub zeros : (n i : ℕ) → ◌≡◌ {A = ℕ} (get_or (replicate n 0) i 0) 0
-zeros zero i = refl
-zeros (suc n) zero = refl
-zeros (suc n) (suc i) = zeros n i
 
 -- edges with the same names have the same chain and count
 module _ {g h : Graph} (same : Renamed (λ n. n) g h) (a b : ℕ) where
@@ -44,10 +39,10 @@ module _ {g h : Graph} (same : Renamed (λ n. n) g h) (a b : ℕ) where
   count_same = count_map (λ n. n) (λ m n. refl) g h same a b
 
 -- what is said of a count, where it is the same
-count_is : {o p : calls.Outcome} (r : Listing) → o ≡ p → CountIs o r → CountIs p r
+count_is : {o p : calls.Outcome} (r : Result Listed Refusal) → o ≡ p → CountIs o r → CountIs p r
 count_is r e c = subst (λ (x : calls.Outcome). CountIs x r) e c
 
-pub lists_prepared : {g : Graph} {count : ℕ} {edges : List ℕ} → Prepared (turned 1 g) count edges → (a b : ℕ) {list list' : List ℕ} {r : Listing}
+pub lists_prepared : {g : Graph} {count : ℕ} {edges : List ℕ} → Prepared (turned 1 g) count edges → (a b : ℕ) {list list' : List ℕ} {r : Result Listed Refusal}
     → Lists (turned 1 (named count edges)) a b list list' r → Lists g a b list list' r
 lists_prepared {g} {count} {edges} p a b {list} {list'} {r} l =
     record {
@@ -75,9 +70,9 @@ module _ {s places : List ℕ} {l : Layout} (a b : ℕ) (layout : LayoutOf s l p
   count_due =
       ap (λ (k : ℕ). calls.result (k ∷ [])) (sym (count_same tree a b)) ∙ sym (due_opened layout no_circle (λ t. calls.result (followed_count (graph t) a b ∷ [])))
 
-  pub called : {list list' : List ℕ} {r : Listing} → Lists (graph_at s l.edges_at l.edges) a b list list' r → ChainCall a b s list list' r
+  pub called : {list list' : List ℕ} {r : Result Listed Refusal} → Lists (graph_at s l.edges_at l.edges) a b list list' r → ChainCall a b s list list' r
   called {list} {list'} {r} f = record { call = subst (λ (o : calls.Outcome). calls.Call o list list' (answer_meant r)) chain_due f.call; count = count_is r count_due f.count }
 
-pub turned_down : (a b : ℕ) {s : List ℕ} {k : ℕ} (list : List ℕ) → ((f : Bundle → calls.Outcome) → calls.on_bundle f s ≡ calls.refusal k) → ChainCall a b s list list (Refused k)
+pub turned_down : (a b : ℕ) {s : List ℕ} (r : Refusal) (list : List ℕ) → ((f : Bundle → calls.Outcome) → calls.on_bundle f s ≡ calls.refusal (number r)) → ChainCall a b s list list (Err r)
 unfolding answer_meant calls.answer_of calls.places_after chaining
-turned_down a b list e = record { call = rw (e _) (record { answer = refl; places = refl }); count = tt }
+turned_down a b r list e = record { call = rw (e _) (record { answer = refl; places = refl }); count = tt }

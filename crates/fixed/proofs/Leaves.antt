@@ -1,21 +1,16 @@
--- The extents of primitives, and those that are kept.
+-- The extents of primitives.
+use Rattle.std.specs.Prelude.{Ok}
 use Prim.Native.Nat.{ℕ, ◌+◌, ◌-◌, ◌≤◌, ◌<◌}
 use native.Mathlib.Omega.{arith}
 use mathlib.Core.Bool.{◌&&◌}
 use mathlib.Core.Path.{◌≡◌}
 use lib.Dec.{T, leb, leb→le}
-use borrow.Author.Tests.{lt-ltb, le-ltb}
 use Rattle.meaning.specs.Kinds.{OfType, Primitive, form_of}
-use Rattle.meaning.specs.Kinds as kinds
 use Rattle.meaning.specs.Sizes.{get_primitive_size}
 use Rattle.meaning.proofs.KindTable.{and_0, and_1}
-use Rattle.bundle.specs.declared.Form as code
 use Rattle.sizes.proofs.PrimitiveLaws.{primitive_kind}
-use Rattle.fixed_meaning.specs.Extent as meaning
 use Rattle.fixed_meaning.specs.Extent.{sized}
-use Rattle.extents.specs.declared.Extent.TheVariants.{Sized, Unsized}
 use Rattle.extents.specs.Meant.{extent_meant, Part}
-use Rattle.fixed.specs.Kept.{kept_as}
 use Rattle.fixed_meaning.proofs.Every.{every_at}
 
 -- a primitive
@@ -26,18 +21,9 @@ primitive_size k l h =
     let e : 0x30 + (k - 0x30) ≡ k = omega arith in
     (leb→le 1 (get_primitive_size k) (and_0 (leb 1 (get_primitive_size k)) (leb (get_primitive_size k) 8) (rw e at t)), leb→le (get_primitive_size k) 8 (and_1 (leb 1 (get_primitive_size k)) (leb (get_primitive_size k) 8) (rw e at t)))
 
-pub primitive_extent : (k n : ℕ) → k < 256 → form_of k ≡ OfType Primitive → n ≡ get_primitive_size k → (extent_meant (Sized n n) ≡ sized (get_primitive_size k) (get_primitive_size k)) × Part (Sized n n)
+pub primitive_extent : (k n : ℕ) → k < 256 → form_of k ≡ OfType Primitive → n ≡ get_primitive_size k → (extent_meant (Ok (record { size = n; alignment = n })) ≡ sized (get_primitive_size k) (get_primitive_size k)) × Part (Ok (record { size = n; alignment = n }))
 unfolding extent_meant
 primitive_extent k n h p e =
     let q = primitive_kind k h p in
     let z = primitive_size k q.0 q.1 in
     (rw e, (rw e (omega (arith, z.1)), (rw e z.0, rw e (omega (arith, z.1)))))
-
--- the extent that is kept
-pub kept_refusal : (n a : ℕ) → n < 16 → Unsized n ≡ kept_as n a
-unfolding kept_as
-kept_refusal n a h = rw (lt-ltb n 16 h)
-
-pub kept_size : (n a : ℕ) → 16 ≤ n → Sized (n - 16) a ≡ kept_as n a
-unfolding kept_as
-kept_size n a h = rw (le-ltb n 16 h)

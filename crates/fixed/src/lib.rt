@@ -11,43 +11,34 @@ ghost use Rattle.bundle.specs.View.{Reads};
 ghost use Rattle.bundle.specs.Definitions.{Table};
 ghost use Rattle.fixed_meaning.specs.Extent.{sized};
 ghost use Rattle.extents.specs.Meant.{extent_meant, Part, Open, attributes, close_of};
-ghost use Rattle.fixed.specs.Kept.{kept_as, known, Sound};
+ghost use Rattle.fixed.specs.Kept.{known, Sound};
 ghost use Rattle.fixed.specs.Walk.{TypeMeasured, MembersMeasured, GroupMeasured};
 
-use bundle::{Form, Step, TypeForm};
+use bundle::{Form, TypeForm};
 use extents::Extent;
-
-// How many numbers are kept: of each definition its size, and behind those of each its alignment.
-pub const KEPT: usize = 2 * bundle::DEFINITIONS;
+use refusal::Refusal;
 
 // The extent of a type or of its members, and where it ends.
 #[derive(Clone, Copy)]
 pub struct Measured {
-    pub extent: Extent,
+    pub extent: Result<Extent, Refusal>,
     pub end: usize,
 }
 
 // A primitive aligns to its size.
-fn primitive(kind: u8) -> Extent
+fn primitive(kind: u8) -> Result<Extent, Refusal>
     requires { form_of kind ≡ OfType Primitive }
     ensures { (extent_meant result ≡ sized (get_primitive_size kind) (get_primitive_size kind)) × Part result }
 {
-    let size = sizes::get_primitive_size(kind) as u64;
-    Extent::Sized(size, size)
-}
-
-// The extent that is kept as these two numbers: a size has 16 added, so that refusals stay apart from it.
-pub fn kept_extent(size: u64, alignment: u64) -> Extent
-    ensures { result ≡ kept_as size alignment }
-{
-    if size < 16 {
-        return Extent::Unsized(size as u8);
-    }
-    Extent::Sized(size - 16, alignment)
+    let size = u64::from(sizes::get_primitive_size(kind));
+    Ok(Extent {
+        size,
+        alignment: size,
+    })
 }
 
 // The type whose body is at `at`, by its members, which are of kind `kind`.
-fn closed_at(s: &[u8], at: usize, kind: u8, so: Extent) -> Extent
+fn closed_at(s: &[u8], at: usize, kind: u8, so: Result<Extent, Refusal>) -> Result<Extent, Refusal>
     requires { (at + 9 ≤ length s.now) × Open so }
     ensures { (extent_meant result ≡ close_of kind (attributes (get_or s.now at 0) (little s.now (at + 1) 8)) (extent_meant so)) × Part result }
 {
@@ -55,15 +46,20 @@ fn closed_at(s: &[u8], at: usize, kind: u8, so: Extent) -> Extent
 }
 
 // The extent of the first definition of the name at `at`.
-fn measure_name(s: &[u8], places: &[u16], count: usize, kept: &[u64], at: usize) -> Extent
+fn measure_name(
+    s: &[u8],
+    places: &[u16],
+    count: usize,
+    kept: &[Option<Result<Extent, Refusal>>],
+    at: usize,
+) -> Result<Extent, Refusal>
     requires { (at + 2 ≤ length s.now) × Table s.now count places.now × Sound kept.now }
     ensures { (extent_meant result ≡ known s.now kept.now (little s.now at 2)) × Part result }
 {
-    let i = lookup::definition_of(s, places, count, bundle::u16_at(s, at));
-    if count <= i {
-        return Extent::Unsized(11);
-    }
-    kept_extent(kept[i], kept[bundle::DEFINITIONS + i])
+    let Some(i) = lookup::definition_of(s, places, count, bundle::u16_at(s, at)) else {
+        return Err(Refusal::Varies);
+    };
+    kept[i].unwrap_or(Err(Refusal::Varies))
 }
 
 // The extent and the end of the type that was read at `at`.
@@ -72,7 +68,7 @@ pub fn measure_type(
     s: &[u8],
     places: &[u16],
     count: usize,
-    kept: &[u64],
+    kept: &[Option<Result<Extent, Refusal>>],
     at: usize,
     depth: usize,
 ) -> Measured
@@ -80,10 +76,9 @@ pub fn measure_type(
     ensures { TypeMeasured s.now kept.now (read_ty depth s.now at) result }
 {
     let kind = s[at];
-    let form = bundle::form_of(kind);
-    let Form::OfType(t) = form else {
+    let Form::OfType(t) = bundle::form_of(kind) else {
         return Measured {
-            extent: Extent::Unsized(11),
+            extent: Err(Refusal::Varies),
             end: at,
         };
     };
@@ -111,7 +106,7 @@ fn measure_group(
     s: &[u8],
     places: &[u16],
     count: usize,
-    kept: &[u64],
+    kept: &[Option<Result<Extent, Refusal>>],
     at: usize,
     depth: usize,
     kind: u8,
@@ -121,9 +116,8 @@ fn measure_group(
 {
     let n = bundle::u16_at(s, at + 9) as usize;
     let m = measure_members(s, places, count, kept, at + 11, depth, kind, s[at], n);
-    let so = m.extent;
     Measured {
-        extent: closed_at(s, at, kind, so),
+        extent: closed_at(s, at, kind, m.extent),
         end: m.end,
     }
 }
@@ -134,7 +128,7 @@ fn measure_enum(
     s: &[u8],
     places: &[u16],
     count: usize,
-    kept: &[u64],
+    kept: &[Option<Result<Extent, Refusal>>],
     at: usize,
     depth: usize,
 ) -> Measured
@@ -142,17 +136,15 @@ fn measure_enum(
     ensures { TypeMeasured s.now kept.now (read_enum (read_expr depth) (read_ty depth) s.now at) result }
 {
     let n = bundle::u16_at(s, at + 9) as usize;
-    let tag = bundle::expr_at(s, at + 11, depth);
-    let Step::Next(after) = tag else {
+    let Ok(after) = bundle::expr_at(s, at + 11, depth) else {
         return Measured {
-            extent: Extent::Unsized(11),
+            extent: Err(Refusal::Varies),
             end: at,
         };
     };
     let m = measure_members(s, places, count, kept, after, depth, 0x52, s[at], n);
-    let so = m.extent;
     Measured {
-        extent: closed_at(s, at, 0x52, so),
+        extent: closed_at(s, at, 0x52, m.extent),
         end: m.end,
     }
 }
@@ -163,25 +155,23 @@ fn measure_array(
     s: &[u8],
     places: &[u16],
     count: usize,
-    kept: &[u64],
+    kept: &[Option<Result<Extent, Refusal>>],
     at: usize,
     depth: usize,
 ) -> Measured
     requires { Table s.now count places.now × Sound kept.now × Reads (read_array (read_expr depth) (read_ty depth) s.now at) }
     ensures { TypeMeasured s.now kept.now (read_array (read_expr depth) (read_ty depth) s.now at) result }
 {
-    let size = bundle::expr_at(s, at + 10, depth);
-    let Step::Next(after) = size else {
+    let Ok(after) = bundle::expr_at(s, at + 10, depth) else {
         return Measured {
-            extent: Extent::Unsized(11),
+            extent: Err(Refusal::Varies),
             end: at,
         };
     };
     let counted = evaluate::count_of(s, at + 10, depth);
     let m = measure_type(s, places, count, kept, after, depth);
-    let e = m.extent;
     Measured {
-        extent: extents::array_of(s[at + 9], counted, e),
+        extent: extents::array_of(s[at + 9], counted, m.extent),
         end: m.end,
     }
 }
@@ -192,7 +182,7 @@ fn measure_members(
     s: &[u8],
     places: &[u16],
     count: usize,
-    kept: &[u64],
+    kept: &[Option<Result<Extent, Refusal>>],
     at: usize,
     depth: usize,
     kind: u8,
@@ -203,22 +193,21 @@ fn measure_members(
     ensures { MembersMeasured s.now kept.now kind packed (read_members (read_ty depth) kind n s.now at) result }
 {
     let form = bundle::form_of(kind);
-    let mut so = Extent::Sized(0, 1);
+    let mut so = Ok(Extent {
+        size: 0,
+        alignment: 1,
+    });
     let mut next = at;
-    let mut rest = n;
-    while 0 < rest {
-        let head = bundle::member_head_at(s, next, kind, form);
-        let Step::Next(body) = head else {
+    for _ in 0..n {
+        let Ok(body) = bundle::member_head_at(s, next, kind, form) else {
             return Measured {
                 extent: so,
                 end: next,
             };
         };
         let m = measure_type(s, places, count, kept, body, depth);
-        let part = m.extent;
-        so = extents::join(kind, packed, so, part);
+        so = extents::join(kind, packed, so, m.extent);
         next = m.end;
-        rest -= 1;
     }
     Measured {
         extent: so,

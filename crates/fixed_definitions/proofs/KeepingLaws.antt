@@ -1,20 +1,23 @@
 -- A definition is measured after those to which its records lead: what is known before, between and after these records.
+use Rattle.std.specs.Prelude.{None, Result, Some}
+use Rattle.std.specs.Option.{is_some}
+use Rattle.refusal.specs.declared.Refusal.{Refusal}
 use Prim.Native.Nat.{ℕ, suc, ◌+◌, ◌-◌, ◌≤◌, ◌<◌}
 use native.Mathlib.Omega.{arith}
-use mathlib.Core.Bool.{Bool, true, false}
+use mathlib.Core.Bool.{Bool, true, false, false≢true}
 use mathlib.Core.List.Memᴰ
 use mathlib.Core.List.{List, [], ◌∷◌, Memᴰ}
 use mathlib.Core.Logic.{◌⊎◌, inl, inr, ⊎_elim}
 use mathlib.Core.Path.{◌≡◌, refl, sym, ap, subst, ◌∙◌}
+use Rattle.std.proofs.lemmas.List.{get_or-replicate}
 use lib.Dec.{eqb, ltb}
 use lib.ListN.{length, get_or, set, replicate, length-set}
 use lib.Seq.{get_or-set_same, get_or-set_other}
-use borrow.Author.Tests.{eqb-true, eqb-false, lt-ltb, le-ltb, ltb-true, ltb-false}
+use borrow.Author.Tests.{eqb-true, eqb-false, ltb-true, ltb-false}
 use Rattle.meaning.specs.Circle.{type_names, names_in, resolve, leads_to, settled, circles}
 use Rattle.meaning.specs.Tree.{Ty}
 use Rattle.meaning.specs.Lookup.{count, definition_of, find_type}
 use Rattle.meaning.specs.Lookup as lookup
-use Rattle.meaning.proofs.Lists.{get_d_zeros}
 use Rattle.meaning.proofs.Circle.{resolve_below, resolve_mem, settled_zero, settled_step, settled_of}
 use Rattle.bundle.specs.Definitions.{type_at, bundle_of, Table}
 use Rattle.bundle.proofs.LookupLaws.{placed_type, found_none}
@@ -22,69 +25,39 @@ use Rattle.scan.specs.Parts.{Part, type_parts}
 use Rattle.scan.specs.Scan.{record_name, part_at, Run, Records, lead_to, stops, from_stop, NextStop}
 use Rattle.scan.proofs.ScanLaws.{run_none, Lead, first_lead, stop_leads, from_names}
 use Rattle.scan.proofs.Walks.{lead_none, lead_one, definition_flat, definition_lead}
-use Rattle.fixed_meaning.specs.Extent as meaning
 use Rattle.fixed_meaning.specs.Fixed.{measure, measured, extent_of, definition_extent}
 use Rattle.fixed_meaning.proofs.Within.{Agree, measure_local, extent_equation}
 use Rattle.extents.specs.declared.Extent.{Extent}
-use Rattle.extents.specs.declared.Extent.TheVariants.{Sized, Unsized}
 use Rattle.extents.specs.Meant as meant
 use Rattle.extents.specs.Meant.{extent_meant}
-use Rattle.fixed.specs.Kept.{kept_as, kept_at, Sound, known}
+use Rattle.fixed.specs.Kept.{Extents, kept_at, Sound, known}
 use Rattle.fixed.specs.Walk.{part_of}
-use Rattle.fixed_definitions.specs.Keeping.{size_kept, alignment_kept, Known, KeptExtents, Ready, Kept}
-
--- An extent and the two numbers as which it is kept.
-
-pub size_sized : (e : Extent) (n a : ℕ) → e ≡ Sized n a → n + 16 ≡ size_kept e
-unfolding size_kept
-size_sized e n a p = rw p
-
-pub size_unsized : (e : Extent) (k : ℕ) → e ≡ Unsized k → k ≡ size_kept e
-unfolding size_kept
-size_unsized e k p = rw p
-
-pub size_fits : (e : Extent) (n a : ℕ) → meant.Part e → e ≡ Sized n a → n ≤ 4294967295
-size_fits e n a f p = (subst meant.Part p f).0
-
-pub alignment_sized : (e : Extent) (n a : ℕ) → e ≡ Sized n a → a ≡ alignment_kept e
-unfolding alignment_kept
-alignment_sized e n a p = rw p
-
-pub alignment_unsized : (e : Extent) (k : ℕ) → e ≡ Unsized k → 1 ≡ alignment_kept e
-unfolding alignment_kept
-alignment_unsized e k p = rw p
-
-kept_back : (e : Extent) → meant.Part e → kept_as (size_kept e) (alignment_kept e) ≡ e
-unfolding kept_as size_kept alignment_kept
-kept_back (Sized n a) f = let z : n + 16 - 16 ≡ n = omega arith in rw (le-ltb (n + 16) 16 (omega arith)) (ap (λ m. Sized m a) z)
-kept_back (Unsized k) f = rw (lt-ltb k 16 (omega (arith, f)))
-
-kept_there : (e : Extent) → meant.Part e → 0 < alignment_kept e
-unfolding alignment_kept
-kept_there (Sized n a) f = f.1.0
-kept_there (Unsized k) f = omega arith
+use Rattle.fixed_definitions.specs.Keeping.{Known, KeptExtents, Ready, Kept}
 
 -- What is kept.
 
-module _ {s kept : List ℕ} (k : KeptExtents s kept) where
-  -- an extent is kept where the alignment is not 0
-  pub keeps_known : (i : ℕ) → i < 256 → 0 < get_or kept (256 + i) 0 → Known s kept i
-  keeps_known i h l = ⊎_elim (λ e. absurd (omega (arith, e.1))) (λ x. x) (k.each i h)
+-- the same is kept of definition i
+known_same : {s : List ℕ} {before after : Extents} {i : ℕ} → get_or after i None ≡ get_or before i None → Known s before i → Known s after i
+known_same e k = record { there = rw e k.there; is = rw e k.is; fits = rw e k.fits }
+
+module _ {s : List ℕ} {kept : Extents} (k : KeptExtents s kept) where
+  -- what is kept is the extent
+  pub keeps_known : (i : ℕ) → i < 256 → is_some (get_or kept i None) ≡ true → Known s kept i
+  keeps_known i h l = ⊎_elim (λ e. absurd (false≢true (ap is_some (sym e) ∙ l))) (λ x. x) (k.each i h)
 
   -- whatever is kept is an extent
   pub keeps_sound : Sound kept
-  unfolding kept_as
-  keeps_sound = record { size = k.size; fits = λ i h. ⊎_elim (λ e. nothing i e.0) (λ x. x.fits) (k.each i h) }
+  keeps_sound = record { size = k.size; fits = λ i h. ⊎_elim (λ e. nothing i e) (λ x. x.fits) (k.each i h) }
     where
-      nothing : (i : ℕ) → get_or kept i 0 ≡ 0 → meant.Part (kept_at kept i)
-      nothing i p = subst (λ x. meant.Part (kept_as x (get_or kept (256 + i) 0))) (sym p) (omega arith)
+      nothing : (i : ℕ) → get_or kept i None ≡ None → meant.Part (kept_at kept i)
+      nothing i p = rw p (omega arith)
 
 -- nothing is known yet
-pub keeps_start : (s : List ℕ) → KeptExtents s (replicate 512 0)
-keeps_start s = record { size = refl; each = λ i h. inl (get_d_zeros 512 i, get_d_zeros 512 (256 + i)); onward = λ i j h k m. absurd (omega (arith, k.there, get_d_zeros 512 (256 + i))) }
+pub keeps_start : (s : List ℕ) → KeptExtents s (replicate 256 None)
+keeps_start s = record { size = refl; each = λ i h. inl (get_or-replicate 256 i None None h); onward = λ i j h k m. absurd (false≢true (ap is_some (sym (get_or-replicate 256 i None None h)) ∙ k.there)) }
 
 -- a type whose names lead to definitions with kept extents
-module _ {s kept : List ℕ} {n : ℕ} {places : List ℕ} (tb : Table s n places) (c : circles (bundle_of s) ≡ false) where
+module _ {s : List ℕ} {kept : Extents} {n : ℕ} {places : List ℕ} (tb : Table s n places) (c : circles (bundle_of s) ≡ false) where
   name_same : (x : ℕ) → (definition_of (bundle_of s) x < count (bundle_of s) → Known s kept (definition_of (bundle_of s) x)) → known s kept x ≡ extent_of (bundle_of s) x
   unfolding known find_type definition_extent measured
   name_same x h = go (ltb (definition_of (bundle_of s) x) (count (bundle_of s))) refl ∙ sym (extent_equation (bundle_of s) c x)
@@ -104,7 +77,7 @@ module _ {s kept : List ℕ} {n : ℕ} {places : List ℕ} (tb : Table s n place
 -- The walk over the records of definition i.
 
 -- the records from `at` on are still to be gone through, of those that end at `end`; what those before lead to is kept
-pub record Measuring (s : List ℕ) (i left end : ℕ) (before kept : List ℕ) (at : ℕ) : Type 0 where
+pub record Measuring (s : List ℕ) (i left end : ℕ) (before kept : Extents) (at : ℕ) : Type 0 where
   pub bound : end ≤ length s
   pub parts : List Part
   pub run : Run s end at parts
@@ -117,7 +90,7 @@ pub record Measuring (s : List ℕ) (i left end : ℕ) (before kept : List ℕ) 
 onward : (s : List ℕ) (ps : List Part) → lead_to s (from_stop false false ps) ≡ lead_to s ps
 onward s ps = ap (resolve (bundle_of s)) (from_names false false ps)
 
-module _ {s : List ℕ} {n : ℕ} {places : List ℕ} (tb : Table s n places) {i : ℕ} (h : i < n) {left : ℕ} {kept : List ℕ} (g : Ready s left (i ∷ []) kept) where
+module _ {s : List ℕ} {n : ℕ} {places : List ℕ} (tb : Table s n places) {i : ℕ} (h : i < n) {left : ℕ} {kept : Extents} (g : Ready s left (i ∷ []) kept) where
   pub place_below : i < 256
   place_below = omega (arith, tb.count, tb.placed.room)
 
@@ -144,7 +117,7 @@ module _ {s : List ℕ} {n : ℕ} {places : List ℕ} (tb : Table s n places) {i
       }
 
   -- all of them were gone through, and the extent e by what is kept now is that of the definition
-  module _ {end : ℕ} {after : List ℕ} {at : ℕ} (w : Measuring s i left end kept after at) (past : end ≤ at) where
+  module _ {end : ℕ} {after : Extents} {at : ℕ} (w : Measuring s i left end kept after at) (past : end ≤ at) where
     pub measuring_keeps : KeptExtents s after
     measuring_keeps = w.ready.keeps
 
@@ -161,82 +134,49 @@ module _ {s : List ℕ} {n : ℕ} {places : List ℕ} (tb : Table s n places) {i
         ∙ sym (ap (λ o. measured o (extent_of (bundle_of s))) (placed_type tb i h))
 
     -- it is kept
-    module _ (e : Extent) {x y : ℕ} (p : extent_meant e ≡ definition_extent (bundle_of s) i) (f : meant.Part e) (q : x ≡ size_kept e) (r : y ≡ alignment_kept e) where
-      abbrev last : List ℕ
-      last = set (set after i x) (256 + i) y
+    module _ (e : Result Extent Refusal) (p : extent_meant e ≡ definition_extent (bundle_of s) i) (f : meant.Part e) where
+      abbrev last : Extents
+      last = set after i (Some e)
 
-      room : (256 + i < length (set after i x)) × (i < length after)
-      room = (rw length-set (omega (arith, measuring_keeps.size, place_below)), omega (arith, measuring_keeps.size, place_below))
+      now : get_or last i None ≡ Some e
+      now = get_or-set_same after i (Some e) None (omega (arith, measuring_keeps.size, place_below))
 
-      size_now : get_or last i 0 ≡ x
-      size_now = get_or-set_other (set after i x) (256 + i) i y 0 (λ z. omega (arith, z)) ∙ get_or-set_same after i x 0 room.1
-
-      alignment_now : get_or last (256 + i) 0 ≡ y
-      alignment_now = get_or-set_same (set after i x) (256 + i) y 0 room.0
-
-      size_other : (j : ℕ) → (j ≡ i → ⊥) → j < 256 → get_or last j 0 ≡ get_or after j 0
-      size_other j d b = get_or-set_other (set after i x) (256 + i) j y 0 (λ z. omega (arith, z)) ∙ get_or-set_other after i j x 0 d
-
-      alignment_other : (j : ℕ) → (j ≡ i → ⊥) → j < 256 → get_or last (256 + j) 0 ≡ get_or after (256 + j) 0
-      alignment_other j d b = get_or-set_other (set after i x) (256 + i) (256 + j) y 0 (λ z. d (omega (arith, z))) ∙ get_or-set_other after i (256 + j) x 0 (λ z. omega (arith, z, place_below))
-
-      kept_now : kept_at last i ≡ e
-      kept_now = rw (size_now, alignment_now, q, r) (kept_back e f)
+      other : (j : ℕ) → (j ≡ i → ⊥) → get_or last j None ≡ get_or after j None
+      other j d = get_or-set_other after i j (Some e) None d
 
       known_now : Known s last i
-      known_now = record {
-        there = rw (alignment_now, r) (kept_there e f);
-        is = ap extent_meant kept_now ∙ p;
-        fits = subst meant.Part (sym kept_now) f;
-      }
+      known_now = record { there = rw now refl; is = rw now p; fits = rw now f }
 
-      known_other : (j : ℕ) → (j ≡ i → ⊥) → j < 256 → Known s after j → Known s last j
-      known_other j d b k =
-          let z : kept_at last j ≡ kept_at after j = rw (size_other j d b, alignment_other j d b) in
-          record {
-            there = rw (alignment_other j d b) k.there;
-            is = ap extent_meant z ∙ k.is;
-            fits = subst meant.Part (sym z) k.fits;
-          }
-
-      known_still : (j : ℕ) → j < 256 → Known s after j → Known s last j
-      known_still j b k = go (eqb j i) refl
+      known_still : (j : ℕ) → Known s after j → Known s last j
+      known_still j k = go (eqb j i) refl
         where
           go : (t : Bool) → eqb j i ≡ t → Known s last j
           go true z = subst (Known s last) (sym (eqb-true j i z)) known_now
-          go false z = known_other j (eqb-false j i z) b k
+          go false z = known_same (other j (eqb-false j i z)) k
 
-      each : (j : ℕ) → j < 256 → ((get_or last j 0 ≡ 0) × (get_or last (256 + j) 0 ≡ 0)) ⊎ Known s last j
+      each : (j : ℕ) → j < 256 → (get_or last j None ≡ None) ⊎ Known s last j
       each j b = go (eqb j i) refl
         where
-          go : (t : Bool) → eqb j i ≡ t → ((get_or last j 0 ≡ 0) × (get_or last (256 + j) 0 ≡ 0)) ⊎ Known s last j
+          go : (t : Bool) → eqb j i ≡ t → (get_or last j None ≡ None) ⊎ Known s last j
           go true z = inr (subst (Known s last) (sym (eqb-true j i z)) known_now)
-          go false z =
-              let d = eqb-false j i z in
-              ⊎_elim (λ k. inl (size_other j d b ∙ k.0, alignment_other j d b ∙ k.1)) (λ k. inr (known_other j d b k)) (measuring_keeps.each j b)
-
-      lead_below : (j k : ℕ) → Memᴰ k (leads_to (bundle_of s) j) → k < 256
-      unfolding leads_to
-      lead_below j k m = omega (arith, resolve_below (bundle_of s) (names_in (lookup.type_at (bundle_of s) j)) k m, tb.count, tb.placed.room)
+          go false z = ⊎_elim (λ k. inl (other j (eqb-false j i z) ∙ k)) (λ k. inr (known_still j k)) (measuring_keeps.each j b)
 
       onwards : (j k : ℕ) → j < 256 → Known s last j → Memᴰ k (leads_to (bundle_of s) j) → Known s last k
       onwards j k b x m = go (eqb j i) refl
         where
           go : (t : Bool) → eqb j i ≡ t → Known s last k
-          go true z = known_still k (lead_below j k m) (all_known k (subst (λ d. Memᴰ k (leads_to (bundle_of s) d)) (eqb-true j i z) m))
-          go false z =
-              let l : 0 < get_or after (256 + j) 0 = rw (alignment_other j (eqb-false j i z) b) at x.there in
-              known_still k (lead_below j k m) (measuring_keeps.onward j k b (keeps_known measuring_keeps j b l) m)
+          go true z = known_still k (all_known k (subst (λ d. Memᴰ k (leads_to (bundle_of s) d)) (eqb-true j i z) m))
+          go false z = known_still k (measuring_keeps.onward j k b (known_same (sym (other j (eqb-false j i z))) x) m)
 
       pub measuring_end : Kept s (i ∷ []) kept last
       measuring_end = record {
-        keeps = record { size = length-set (set after i x) (256 + i) y ∙ length-set after i x ∙ measuring_keeps.size; each = each; onward = onwards };
+        keeps = record { size = length-set after i (Some e) ∙ measuring_keeps.size; each = each; onward = onwards };
         now = λ j m. subst (Known s last) (sym (Memᴰ.eq_of_singleton m)) known_now;
-        still = λ j b k. known_still j b (w.still j b k);
+        still = λ j b k. known_still j (w.still j b k);
       }
 
 -- a record that leads, and the records behind it
-module _ {s : List ℕ} {total : ℕ} {places : List ℕ} (tb : Table s total places) {i left end : ℕ} {before kept : List ℕ} {at : ℕ} (w : Measuring s i left end before kept at) (h : at < end) where
+module _ {s : List ℕ} {total : ℕ} {places : List ℕ} (tb : Table s total places) {i left end : ℕ} {before kept : Extents} {at : ℕ} (w : Measuring s i left end before kept at) (h : at < end) where
   here : Lead s end at w.parts
   here = first_lead s w.run h (stop_leads s at (w.stop h))
 
@@ -285,7 +225,7 @@ module _ {s : List ℕ} {total : ℕ} {places : List ℕ} (tb : Table s total pl
           }
 
       -- definition j is kept
-      pub measuring_next : j < count (bundle_of s) → {after : List ℕ} → Kept s (j ∷ []) kept after → Measuring s i left end before after next
+      pub measuring_next : j < count (bundle_of s) → {after : Extents} → Kept s (j ∷ []) kept after → Measuring s i left end before after next
       measuring_next n {after} f =
           let p : lead_to s w.parts ≡ j ∷ lead_to s (from_stop false false here.rest) = one n ∙ ap (j ∷◌) (sym (onward s here.rest)) in
           record {
@@ -303,7 +243,7 @@ module _ {s : List ℕ} {total : ℕ} {places : List ℕ} (tb : Table s total pl
           found x (Memᴰ.tail m) = inl m
 
       -- it was kept before
-      pub measuring_known : j < count (bundle_of s) → 0 < get_or kept (256 + j) 0 → Measuring s i left end before kept next
+      pub measuring_known : j < count (bundle_of s) → is_some (get_or kept j None) ≡ true → Measuring s i left end before kept next
       measuring_known n z = measuring_next n (record {
         keeps = w.ready.keeps;
         now = λ x m. subst (Known s kept) (sym (Memᴰ.eq_of_singleton m)) (keeps_known w.ready.keeps j (few n) z);
@@ -311,7 +251,7 @@ module _ {s : List ℕ} {total : ℕ} {places : List ℕ} (tb : Table s total pl
       })
 
 -- in a bundle in which nothing circles, as many steps as there are definitions are enough
-pub ready_definition : {s : List ℕ} {n : ℕ} {places : List ℕ} → Table s n places → circles (bundle_of s) ≡ false → {kept : List ℕ} → KeptExtents s kept → (i : ℕ) → i < n → Ready s n (i ∷ []) kept
+pub ready_definition : {s : List ℕ} {n : ℕ} {places : List ℕ} → Table s n places → circles (bundle_of s) ≡ false → {kept : Extents} → KeptExtents s kept → (i : ℕ) → i < n → Ready s n (i ∷ []) kept
 ready_definition {s} tb c k i h = record {
   ends = c;
   within = λ j m.

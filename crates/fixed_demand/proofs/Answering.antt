@@ -20,8 +20,9 @@ use Rattle.fixed_meaning.specs.Fixed.{definition_extent, definition_offsets, giv
 use Rattle.fixed_laws.specs.Statements.{Unfixed, HasLayout}
 use Rattle.fixed_laws.proofs.Decided.{fixed, unfixed, one_layout, one_number}
 use Rattle.fixed_laws.proofs.Least.{refusal_number}
-use Rattle.offsets.specs.declared.Fixed.{Fixed}
-use Rattle.offsets.specs.declared.Fixed.TheVariants as code
+use Rattle.std.specs.Prelude.{Err, Ok, Result}
+use Rattle.refusal.specs.declared.Refusal.{Refusal}
+use Rattle.offsets.specs.declared.Placement.{Placement}
 use Rattle.offsets.specs.Placed.{answer_meant, Extents, FixedCall}
 use Rattle.fixed_demand.specs.Demand.{Says, GetsLayout, FixedDemand}
 
@@ -64,11 +65,11 @@ module _ (i : ℕ) (s : List ℕ) (b : Bundle) (k : Keeps s b) where
       go (sized n a) e = inl (n, (a, e))
       go (unsized j) e = inr (j, e)
 
-  says : (n a : ℕ) → sizing i s ≡ result (n ∷ a ∷ []) → (r : Fixed) → Extents (sizing i s) r → Says r n a
-  says n a e (code.Sized m c count) x = let z : result (m ∷ c ∷ []) ≡ result (n ∷ a ∷ []) = sym x ∙ e in (cc, cc)
-  says n a e (code.Refused j) x = tt
+  says : (n a : ℕ) → sizing i s ≡ result (n ∷ a ∷ []) → (r : Result Placement Refusal) → Extents (sizing i s) r → Says r n a
+  says n a e (Ok p) x = let z : result (p.size ∷ p.alignment ∷ []) ≡ result (n ∷ a ∷ []) = sym x ∙ e in (cc, cc)
+  says n a e (Err j) x = tt
 
-  module _ {before after : List ℕ} {r : Fixed} (d : FixedCall i s before after r) where
+  module _ {before after : List ℕ} {r : Result Placement Refusal} (d : FixedCall i s before after r) where
     every : ((j : ℕ) → Unfixed b (type_at b i) j → ⊥) → GetsLayout i b before after r
     every none = go decided
       where
@@ -111,7 +112,7 @@ module _ (i : ℕ) (s : List ℕ) (b : Bundle) (k : Keeps s b) where
           (p.0 ∙ sym q.0, (p.1.0 ∙ sym q.1.0, p.1.1 ∙ sym q.1.1))
       go (inr e) = absurd (none e.0 (unfixed b no_circle i e.0 e.1))
 
-pub fixed_demand : (i : ℕ) (s before after : List ℕ) (r : Fixed) → Bytes s → FixedCall i s before after r → FixedDemand i s before after r
+pub fixed_demand : (i : ℕ) (s before after : List ℕ) (r : Result Placement Refusal) → Bytes s → FixedCall i s before after r → FixedDemand i s before after r
 unfolding placing
 fixed_demand i s before after r bytes d = record {
   every = λ b k. every i s b k d;

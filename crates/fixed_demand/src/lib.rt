@@ -3,10 +3,11 @@
 
 ghost use Rattle.fixed_demand.specs.Demand.{FixedDemand};
 
-use offsets::Fixed;
+use offsets::Placement;
+use refusal::Refusal;
 
 // The size, alignment and field offsets of a definition.
-pub fn fixed_size(bundle: &[u8], definition: usize, list: &mut [u32]) -> Fixed
+pub fn fixed_size(bundle: &[u8], definition: usize, list: &mut [u32]) -> Result<Placement, Refusal>
     ensures { FixedDemand definition bundle.now list.old list.new result }
 {
     offsets::fixed_size(bundle, definition, list)

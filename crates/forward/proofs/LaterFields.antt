@@ -1,5 +1,6 @@
 -- Whether a reference leads to a later field of the struct, and the first in a list that does: type 4.
-use Prim.Native.Nat.{ℕ, zero, suc, ◌+◌, ◌-◌, ◌*◌, ◌≤◌, ◌<◌}
+use Rattle.std.specs.Prelude.{Some}
+use Prim.Native.Nat.{ℕ, zero, suc, ◌+◌, ◌*◌, ◌≤◌, ◌<◌}
 use native.Mathlib.Omega.{arith}
 use mathlib.Core.Bool.{Bool, true, false, cond, ◌&&◌, false≢true}
 use mathlib.Core.Option.{Option, none, some}
@@ -7,7 +8,7 @@ use mathlib.Core.Path.{◌≡◌, refl, sym, ap, ◌∙◌}
 use mathlib.Core.List.{List, [], ◌∷◌}
 use lib.Dec.{eqb, ltb}
 use lib.ListN.{length, get_or}
-use borrow.Author.Tests.{eq-eqb, ne_eqb, eqb-true, lt-ltb, le-ltb, ltb-true, ltb-false}
+use borrow.Author.Tests.{eqb-true, lt-ltb, le-ltb, ltb-true, ltb-false}
 use Rattle.meaning.specs.Lists.{holds, first_index}
 use Rattle.meaning.specs.Lookup.{names_field, member_name}
 use Rattle.meaning.specs.Tree.{Ty, Member, Bundle}
@@ -63,20 +64,14 @@ later_falls places n a {j} {k} l = go (eqb (get_or places a 0) n) (ltb (k + 1) (
     go true false q e = refl
     go false y q e = refl
 
--- the entry at a is compared with the struct n
-module _ (places : List ℕ) (n j a : ℕ) where
-  pub later_name : (get_or places a 0 ≡ n → ⊥) → false ≡ is_later_at places n j a
-  later_name ne = rw (ne_eqb (get_or places a 0) n ne)
-
-  pub later_none : get_or places (a + 1) 0 ≡ 0 → false ≡ is_later_at places n j a
-  later_none z = rw (z, le-ltb (j + 1) 0 (omega arith), and_false (eqb (get_or places a 0) n))
-
-  pub later_some : get_or places a 0 ≡ n → (get_or places (a + 1) 0 ≡ 0 → ⊥) → ltb j (get_or places (a + 1) 0 - 1) ≡ is_later_at places n j a
-  later_some e ne = rw (eq-eqb (get_or places a 0) n e) (go (ltb j (get_or places (a + 1) 0 - 1)) refl)
-    where
-      go : (b : Bool) → ltb j (get_or places (a + 1) 0 - 1) ≡ b → b ≡ ltb (j + 1) (get_or places (a + 1) 0)
-      go true q = let w = ltb-true j (get_or places (a + 1) 0 - 1) q in sym (lt-ltb (j + 1) (get_or places (a + 1) 0) (omega arith))
-      go false q = let w = ltb-false j (get_or places (a + 1) 0 - 1) q in sym (le-ltb (j + 1) (get_or places (a + 1) 0) (omega (arith, ne)))
+-- it is one of the k
+pub later_below : (places : List ℕ) (n j k a : ℕ) {at : ℕ} → Some at ≡ later_from places n j k a → at + 3 ≤ a + 3 * k
+later_below places n j zero a e = cc
+later_below places n j (suc k) a {at} e = go (is_later_at places n j a) (λ q. later_below places n j k (a + 3) q) e
+  where
+    go : (b : Bool) → (Some at ≡ later_from places n j k (a + 3) → at + 3 ≤ a + 3 + 3 * k) → Some at ≡ cond b (Some a) (later_from places n j k (a + 3)) → at + 3 ≤ a + 3 * suc k
+    go true h e = let z : at ≡ a = cc in omega (arith, z)
+    go false h e = omega (arith, h e)
 
 -- the field part of a forward reference is one name
 pub part_forward : (s : List ℕ) (p n j : ℕ) (t : Ty) → is_forward (bundle_of s) n j t (path_at s p) ≡ true → length (target_at s p).field ≡ 1
@@ -100,31 +95,14 @@ pub record Passed (places : List ℕ) (n j from end next : ℕ) : Type 0 where
   pub ends : next + 3 * left ≡ end
   pub same : (k : ℕ) → from + 3 * k ≡ end → later_from places n j left next ≡ later_from places n j k from
 
-pub passed_start : (places : List ℕ) (n j from end : ℕ) → (k : ℕ) × (from + 3 * k ≡ end) → Passed places n j from end from
-passed_start places n j from end h = record {
-  left = h.0;
-  ends = h.1;
-  same = λ k e. let q : h.0 ≡ k = omega (arith, h.1, e) in ap (λ m. later_from places n j m from) q;
-}
-
 module _ {places : List ℕ} {n j from end next : ℕ} (c : Passed places n j from end next) where
-  pub passed_end : end ≤ next → (k : ℕ) → from + 3 * k ≡ end → end ≡ later_from places n j k from
-  passed_end l k e = go c.left c.ends (c.same k e)
-    where
-      go : (m : ℕ) → next + 3 * m ≡ end → later_from places n j m next ≡ later_from places n j k from → end ≡ later_from places n j k from
-      go zero q w = let z : end ≡ next = omega arith in z ∙ w
-      go (suc m) q w = absurd (omega arith)
-
   module _ (l : next < end) where
-    pub passed_room : next + 3 ≤ end
-    passed_room = omega (arith, c.ends)
-
-    pub passed_here : true ≡ is_later_at places n j next → (k : ℕ) → from + 3 * k ≡ end → next ≡ later_from places n j k from
+    pub passed_here : true ≡ is_later_at places n j next → (k : ℕ) → from + 3 * k ≡ end → Some next ≡ later_from places n j k from
     passed_here h k e = go c.left c.ends (c.same k e)
       where
-        go : (m : ℕ) → next + 3 * m ≡ end → later_from places n j m next ≡ later_from places n j k from → next ≡ later_from places n j k from
-        go zero q w = w
-        go (suc m) q w = ap (λ b. cond b next (later_from places n j m (next + 3))) h ∙ w
+        go : (m : ℕ) → next + 3 * m ≡ end → later_from places n j m next ≡ later_from places n j k from → Some next ≡ later_from places n j k from
+        go zero q w = absurd (omega arith)
+        go (suc m) q w = ap (λ b. cond b (Some next) (later_from places n j m (next + 3))) h ∙ w
 
     pub passed_next : false ≡ is_later_at places n j next → Passed places n j from end (next + 3)
     passed_next h = go c.left c.ends c.same
@@ -134,5 +112,5 @@ module _ {places : List ℕ} {n j from end next : ℕ} (c : Passed places n j fr
         go (suc m) q w = record {
           left = m;
           ends = omega arith;
-          same = λ k e. ap (λ b. cond b next (later_from places n j m (next + 3))) h ∙ w k e;
+          same = λ k e. ap (λ b. cond b (Some next) (later_from places n j m (next + 3))) h ∙ w k e;
         }

@@ -1,4 +1,6 @@
 -- How far the references of a definition are seen: type 4.
+use Rattle.std.specs.Prelude.{None, Ok, Option, Some}
+use Rattle.std.specs.Option.{unwrap_or}
 use Prim.Native.Nat.{ℕ, ◌+◌, ◌-◌, ◌*◌, ◌≤◌, ◌<◌}
 use native.Mathlib.Omega.{arith}
 use mathlib.Core.Bool.{Bool, true, false, not, cond, ◌&&◌, ◌||◌}
@@ -15,20 +17,17 @@ use Rattle.meaning.specs.Sizes.{named_size_depends, is_enum_with_constant_size_v
 use Rattle.meaning.specs.Tree.{Ty, Bundle}
 use Rattle.meaning.specs.Violations.{type_needs_field_ref_for_layout}
 use Rattle.meaning.proofs.Lists.{get_d_zeros}
-use Rattle.bundle.specs.declared.Step.TheVariants.{Next}
 use Rattle.bundle.specs.View.{step_of}
 use Rattle.bundle.specs.Definitions.{type_at, bundle_of, Table}
 use Rattle.bundle.proofs.LookupLaws.{place_ends}
 use Rattle.sizes.specs.Scan.{path_at, references_from, found_of, Fits}
-use Rattle.sizes.specs.declared.Found.{Found}
-use Rattle.sizes.specs.declared.Found.TheVariants.{At, Nothing}
 use Rattle.sizes.proofs.ReferenceLaws.{type_references}
 use Rattle.notes.proofs.Stays.{lists_length}
 use Rattle.notes.specs.Notes.{is_constant_array, needs_references, needed_of, Lists, list_start, Listed}
 use Rattle.notes.proofs.Needs.{needs_iff}
 use Rattle.forward.specs.Forward.{is_forward, find, position_shown, FitIn, ForwardIn, is_later, is_later_at, later_from, SeenTo, Seen}
 use Rattle.forward.proofs.FieldChecks.{forward_in}
-use Rattle.forward.proofs.LaterFields.{entry_later, later_falls}
+use Rattle.forward.proofs.LaterFields.{entry_later, later_falls, later_below}
 
 -- for a reference inside the type, it is forward where it leads to a later field and the type needs its references
 forward_is : (b : Bundle) (n k : ℕ) (t : Ty) {path : List ℕ} → Memᴰ path (collect_field_references_in_type_kind t) → (later : Bool)
@@ -57,7 +56,7 @@ find_none [] = refl
 find_none (p ∷ ps) = find_none ps
 
 -- the first forward reference of a definition is the first to a later field among those that it needs
-module _ (s : List ℕ) (at end : ℕ) (e : Next end ≡ step_of (read_ty 24 s at)) (n k : ℕ) where
+module _ (s : List ℕ) (at end : ℕ) (e : Ok end ≡ step_of (read_ty 24 s at)) (n k : ℕ) where
   abbrev forward : ℕ → Bool
   forward p = is_forward (bundle_of s) n k (type_at 24 s at) (path_at s p)
 
@@ -88,15 +87,15 @@ pub record Stopped (s places : List ℕ) (end n j : ℕ) (ps : List ℕ) (next :
 
 -- the search through a list stops at the first reference to a later field
 module _ (s places : List ℕ) (end n j : ℕ) where
-  stop_at : (ps : List ℕ) (a : ℕ) → Lists s places end a ps → Fits s ps → Stopped s places end n j ps (later_from places n j (length ps) a)
-  stop_at [] a l f = record { seen = record { rest = []; lists = l; fits = f; same = λ k h. refl }; here = refl }
+  stop_at : (ps : List ℕ) (a : ℕ) → Lists s places end a ps → Fits s ps → Stopped s places end n j ps (unwrap_or (later_from places n j (length ps) a) end)
+  stop_at [] a l f = record { seen = record { rest = []; lists = refl; fits = f; same = λ k h. refl }; here = refl }
   stop_at (p ∷ ps) a l f = go (is_later_at places n j a) refl (stop_at ps (a + 3) l.1 f.1)
     where
       found : {b : Bool} (k : ℕ) → is_later_at places n k a ≡ b → find (is_later s n k) (p ∷ ps) ≡ cond b (some p) (find (is_later s n k) ps)
       found k q = ap (λ x. cond x (some p) (find (is_later s n k) ps)) (sym (entry_later l.0 n k) ∙ q)
 
-      go : (b : Bool) → is_later_at places n j a ≡ b → Stopped s places end n j ps (later_from places n j (length ps) (a + 3))
-          → Stopped s places end n j (p ∷ ps) (cond b a (later_from places n j (length ps) (a + 3)))
+      go : (b : Bool) → is_later_at places n j a ≡ b → Stopped s places end n j ps (unwrap_or (later_from places n j (length ps) (a + 3)) end)
+          → Stopped s places end n j (p ∷ ps) (unwrap_or (cond b (Some a) (later_from places n j (length ps) (a + 3))) end)
       go true q w = record { seen = record { rest = p ∷ ps; lists = l; fits = f; same = λ k h. refl }; here = ap position_shown (sym (found j q)) }
       go false q w = record {
         seen = record {
@@ -114,7 +113,7 @@ module _ {s places : List ℕ} {end n j : ℕ} {ps : List ℕ} where
     pub seen_ends : (k : ℕ) × (from + 3 * k ≡ end)
     seen_ends = (length c.rest, lists_length s places end from c.rest c.lists)
 
-    pub seen_stop : {r : ℕ} → ((k : ℕ) → from + 3 * k ≡ end → r ≡ later_from places n j k from) → Stopped s places end n j ps r
+    pub seen_stop : {r : Option ℕ} → ((k : ℕ) → from + 3 * k ≡ end → r ≡ later_from places n j k from) → Stopped s places end n j ps (unwrap_or r end)
     seen_stop h =
         let w = stop_at s places end n j c.rest from c.lists c.fits in
         rw (h (length c.rest) (lists_length s places end from c.rest c.lists)) record {
@@ -122,25 +121,25 @@ module _ {s places : List ℕ} {end n j : ℕ} {ps : List ℕ} where
           here = w.here;
         }
 
+    pub seen_below : {at : ℕ} → ((k : ℕ) → from + 3 * k ≡ end → Some at ≡ later_from places n j k from) → at + 3 ≤ end
+    seen_below h = let k = length c.rest in let e = lists_length s places end from c.rest c.lists in omega (arith, later_below places n j k from (h k e), e)
+
   -- what stands where it stopped
   module _ {next : ℕ} (c : Stopped s places end n j ps next) where
     pub stop_bound : next ≤ end
     stop_bound = omega (arith, lists_length s places end next c.seen.rest c.seen.lists)
 
-    pub stop_room : next < end → next + 3 ≤ end
-    stop_room l = omega (arith, lists_length s places end next c.seen.rest c.seen.lists)
-
-    pub stop_found : next < end → At (get_or places (next + 2) 0) ≡ found_of c.seen.rest
+    pub stop_found : next < end → Some (get_or places (next + 2) 0) ≡ found_of c.seen.rest
     stop_found l = go c.seen.rest c.seen.lists
       where
-        go : (rest : List ℕ) → Lists s places end next rest → At (get_or places (next + 2) 0) ≡ found_of rest
+        go : (rest : List ℕ) → Lists s places end next rest → Some (get_or places (next + 2) 0) ≡ found_of rest
         go [] e = absurd (omega (arith, e))
-        go (p ∷ rest) e = ap At e.0.position
+        go (p ∷ rest) e = ap Some e.0.position
 
-    pub stop_nothing : end ≤ next → Nothing ≡ found_of c.seen.rest
+    pub stop_nothing : end ≤ next → None ≡ found_of c.seen.rest
     stop_nothing l = go c.seen.rest c.seen.lists
       where
-        go : (rest : List ℕ) → Lists s places end next rest → Nothing ≡ found_of rest
+        go : (rest : List ℕ) → Lists s places end next rest → None ≡ found_of rest
         go [] e = refl
         go (p ∷ rest) e = absurd (omega (arith, lists_length s places end (next + 3) rest e.1))
 
@@ -150,7 +149,7 @@ found_fits s (p ∷ ps) f = f.0
 
 -- it is the first forward reference in definition i
 pub stop_forward : {s places : List ℕ} {m : ℕ} → Table s m places → (i : ℕ) → i < m → {end n j next : ℕ} (c : Stopped s places end n j (needed_of s places i) next)
-    → {r : Found} → r ≡ found_of c.seen.rest → ForwardIn s n j (type_at 24 s (get_or places i 0)) r
+    → {r : Option ℕ} → r ≡ found_of c.seen.rest → ForwardIn s n j (type_at 24 s (get_or places i 0)) r
 stop_forward {s} {places} t i l {end} {n} {j} c q =
     let e = (place_ends t i l).1 in
     forward_in s n j (get_or places i 0) (get_or places (i + 1) 0 - 3) e record {

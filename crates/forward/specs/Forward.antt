@@ -1,6 +1,6 @@
 -- What a struct's check finds in the definitions to which its fields lead: type 4.
-use Rattle.std.specs.Prelude.{ℕ, zero, suc, ◌+◌, ◌≤◌, ◌<◌, Bool, not, cond, ◌&&◌, ◌||◌, List, [], ◌∷◌, ◌≡◌, eqb, ltb, length, get_or}
-use Rattle.std.proofs.Math.Option.{Option, none, some}
+use Rattle.std.specs.Prelude.{Option, Some, None, ℕ, zero, suc, ◌+◌, ◌≤◌, ◌<◌, Bool, not, cond, ◌&&◌, ◌||◌, List, [], ◌∷◌, ◌≡◌, eqb, ltb, length, get_or}
+use Rattle.std.proofs.Math.Option as option
 use Rattle.meaning.specs.Limits.{definition_limit}
 use Rattle.meaning.specs.Lists.{find_map}
 use Rattle.meaning.specs.Lookup.{parse_field_reference}
@@ -11,8 +11,6 @@ use Rattle.meaning.specs.Violations.{Violation, violation, field_forward, is_lat
 use Rattle.bundle.specs.Definitions.{bundle_of}
 use Rattle.sizes.specs.Paths.{Fit}
 use Rattle.sizes.specs.Scan.{path_at, Fits}
-use Rattle.sizes.specs.declared.Found as found
-use Rattle.sizes.specs.declared.Found.TheVariants.{At, Nothing}
 use Rattle.checks.specs.Checks.{target_at}
 use Rattle.notes.specs.Notes.{needed_of, Lists, list_start}
 
@@ -24,36 +22,36 @@ is_forward b n j t path =
     && not (is_enum_with_constant_size_variants t)
 
 -- the first number that passes the test
-abbrev pub find : (ℕ → Bool) → List ℕ → Option ℕ
-find test [] = none
-find test (p ∷ ps) = cond (test p) (some p) (find test ps)
+abbrev pub find : (ℕ → Bool) → List ℕ → option.Option ℕ
+find test [] = option.none
+find test (p ∷ ps) = cond (test p) (option.some p) (find test ps)
 
 -- how the code shows a position, and that the reference there lies within the bytes
-abbrev pub position_shown : Option ℕ → found.Found
-position_shown none = Nothing
-position_shown (some p) = At p
+abbrev pub position_shown : option.Option ℕ → Option ℕ
+position_shown option.none = None
+position_shown (option.some p) = Some p
 
-abbrev pub FitIn : List ℕ → found.Found → Type 0
-FitIn s Nothing = Unit {0}
-FitIn s (At p) = Fit s p
+abbrev pub FitIn : List ℕ → Option ℕ → Type 0
+FitIn s None = Unit {0}
+FitIn s (Some p) = Fit s p
 
 -- r is the first forward reference among the positions ps
-pub record Forwarded (s : List ℕ) (n j : ℕ) (t : Ty) (ps : List ℕ) (r : found.Found) : Type 0 where
+pub record Forwarded (s : List ℕ) (n j : ℕ) (t : Ty) (ps : List ℕ) (r : Option ℕ) : Type 0 where
   pub first : r ≡ position_shown (find (λ p. is_forward (bundle_of s) n j t (path_at s p)) ps)
   pub fit : FitIn s r
 
 -- what is found of definition i of the name n, in its field f, by the reference at a position
-abbrev pub forward_at : List ℕ → ℕ → ℕ → ℕ → found.Found → Option Violation
-forward_at s i n f Nothing = none
-forward_at s i n f (At p) = some (violation field_forward i n (path_at s p) (n ∷ f ∷ (target_at s p).field))
+abbrev pub forward_at : List ℕ → ℕ → ℕ → ℕ → Option ℕ → option.Option Violation
+forward_at s i n f None = option.none
+forward_at s i n f (Some p) = option.some (violation field_forward i n (path_at s p) (n ∷ f ∷ (target_at s p).field))
 
 -- the field part of the reference at a position is one name
-abbrev pub OneField : List ℕ → found.Found → Type 0
-OneField s Nothing = Unit {0}
-OneField s (At p) = length (target_at s p).field ≡ 1
+abbrev pub OneField : List ℕ → Option ℕ → Type 0
+OneField s None = Unit {0}
+OneField s (Some p) = length (target_at s p).field ≡ 1
 
 -- r is the position of the first forward reference in the type t
-pub record ForwardIn (s : List ℕ) (n j : ℕ) (t : Ty) (r : found.Found) : Type 0 where
+pub record ForwardIn (s : List ℕ) (n j : ℕ) (t : Ty) (r : Option ℕ) : Type 0 where
   pub first : (i f : ℕ) → find_map (check_forward_reference (bundle_of s) i n j f t) (collect_field_references_in_type_kind t) ≡ forward_at s i n f r
   pub fit : FitIn s r
   pub one : OneField s r
@@ -66,10 +64,10 @@ is_later s n k p = is_later_field (bundle_of s) n k (target_at s p)
 abbrev pub is_later_at : List ℕ → ℕ → ℕ → ℕ → Bool
 is_later_at places n j a = eqb (get_or places a 0) n && ltb (j + 1) (get_or places (a + 1) 0)
 
--- where the first such of k references is listed from a on, and where their list ends if there is none
-abbrev pub later_from : List ℕ → ℕ → ℕ → ℕ → ℕ → ℕ
-later_from places n j zero a = a
-later_from places n j (suc k) a = cond (is_later_at places n j a) a (later_from places n j k (a + 3))
+-- where the first such of k references is listed from a on, and None if there is none
+abbrev pub later_from : List ℕ → ℕ → ℕ → ℕ → ℕ → Option ℕ
+later_from places n j zero a = None
+later_from places n j (suc k) a = cond (is_later_at places n j a) (Some a) (later_from places n j k (a + 3))
 
 -- of the references at ps, those listed from `next` to `end` have all that lead to a field of the struct n behind index j or a later one
 pub record SeenTo (s places : List ℕ) (end n j : ℕ) (ps : List ℕ) (next : ℕ) : Type 0 where

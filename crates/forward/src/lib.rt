@@ -13,38 +13,28 @@ ghost use Rattle.notes.specs.Notes.{lists_at, list_start, Noted};
 ghost use Rattle.forward.specs.Forward.{ForwardIn, is_later_at, later_from, Seen};
 
 use bundle::Layout;
-use checks::{Check, Part};
-use fields::{Definition, Field, Shape};
-use sizes::Found;
+use checks::Finding;
+use fields::{Field, Shape};
 
 // Whether the reference that is listed at `next` leads to a field behind index `j` of the struct.
 fn is_later_field(places: &[u16], name: u16, j: usize, next: usize) -> bool
     requires { next + 1 < length places.now }
     ensures { result ≡ is_later_at places.now name j next }
 {
-    if places[next] != name {
-        return false;
-    }
-    let field = places[next + 1] as usize;
-    if field == 0 {
-        return false;
-    }
-    j < field - 1
+    places[next] == name && j < usize::from(places[next + 1]).saturating_sub(1)
 }
 
-// Where the first such reference is listed from `from` on, and `end` where there is none.
-fn find_later_field(places: &[u16], name: u16, j: usize, from: usize, end: usize) -> usize
+// Where the first such reference is listed from `from` on, if there is one before `end`.
+fn find_later_field(places: &[u16], name: u16, j: usize, from: usize, end: usize) -> Option<usize>
     requires { ((k : ℕ) × (from + 3 * k ≡ end)) × (end ≤ length places.now) }
     ensures { (k : ℕ) → from + 3 * k ≡ end → result ≡ later_from places.now name j k from }
 {
-    let mut next = from;
-    while next < end {
+    for next in (from..end).step_by(3) {
         if is_later_field(places, name, j, next) {
-            return next;
+            return Some(next);
         }
-        next += 3;
     }
-    end
+    None
 }
 
 // Where the search in the list of definition `i` starts: where the search before stopped, if there was one.
@@ -60,6 +50,7 @@ fn start_in(places: &[u16], i: usize, stopped: u16) -> usize
 
 // The first such reference in the whole of definition `i`. Since what leads behind an index leads behind those before it too, the
 // search goes on where it stopped for the fields before: `seen` has that place in the list for each definition, and 0 where none was made.
+// It holds no `Option`, which takes twice the place: the array is cleared for each struct.
 fn find_forward(
     s: &[u8],
     places: &[u16],
@@ -68,18 +59,16 @@ fn find_forward(
     name: u16,
     j: usize,
     i: usize,
-) -> Found
+) -> Option<usize>
     requires { LayoutOf s.now layout places.now × (i < layout.definitions) × Seen s.now places.now name j seen.old × Noted s.now places.now layout.definitions }
     ensures { ForwardIn s.now name j (type_at 24 s.now (get_or places.now i 0)) result × Seen s.now places.now name j seen.new }
 {
     let end = places[field_index::LISTS_AT + (i + 1)] as usize;
     let from = start_in(places, i, seen[i]);
-    let stop = find_later_field(places, name, j, from, end);
-    seen[i] = stop as u16;
-    if stop < end {
-        return Found::At(places[stop + 2] as usize);
-    }
-    Found::Nothing
+    let found = find_later_field(places, name, j, from, end);
+    seen[i] = found.unwrap_or(end) as u16;
+    let at = found?;
+    Some(places[at + 2] as usize)
 }
 
 // Type 4, for the field at index `j` of the struct: the first reference to a later field in the definition to which the field's
@@ -93,28 +82,17 @@ pub fn check_field_layout_dependency(
     j: usize,
     field: Field,
     list: &mut [u16],
-) -> Check
+) -> Option<Finding>
     requires layout_of { LayoutOf s.now layout places.now × Seen s.now places.now name j seen.old × Noted s.now places.now layout.definitions }
     requires reads { Reads (read_ty 23 s.now field.at) × (3 ≤ length list.old) }
     ensures { ((v : ℕ) → Checked s.now name list.new result (λ i. check_field_layout_dependency (bundle_of s.now) i name (j, member field.name v (type_at 23 s.now field.at)))) × Seen s.now places.now name j seen.new }
 {
-    let count = layout.definitions;
-    let shape = fields::shape_at(s, field.at, bundle::DEPTH_INSIDE);
-    let Shape::TypeRef(n) = shape else {
-        return Check::Fine;
+    let Shape::TypeRef(n) = fields::shape_at(s, field.at, bundle::DEPTH_INSIDE) else {
+        return None;
     };
-    let found = fields::find_definition(s, places, count, n);
-    let Definition::At(i, _) = found else {
-        return Check::Fine;
-    };
-    let forward = find_forward(s, places, layout, seen, name, j, i);
-    let Found::At(p) = forward else {
-        return Check::Fine;
-    };
-    let part = checks::field_part(s, p);
-    let Part::One(later) = part else {
-        return Check::Fine;
-    };
+    let i = lookup::definition_of(s, places, layout.definitions, n)?;
+    let p = find_forward(s, places, layout, seen, name, j, i)?;
+    let later = checks::field_part(s, p)?;
     checks::set_chain(list, name, field.name, later);
-    Check::FieldForward(p)
+    Some(Finding::FieldForward(p))
 }

@@ -3,10 +3,7 @@ use Rattle.std.proofs.Common.{ℕ, ◌≡◌, ◌≢◌, ◌≤◌, ◌<◌, Boo
 use lib.Seq.{take-append_seam}
 use Rattle.std.specs.Io.KnownBytes.{Appends}
 use Rattle.words.specs.Running.{reads_bundle, failure_of, message_of}
-use Rattle.words.specs.declared.Input as got
-use Rattle.words.specs.declared.Input.TheVariants.{Bytes, Failed}
 use Rattle.words.specs.declared.Message as told
-use Rattle.words.specs.declared.Message.TheVariants.{Nothing}
 use Rattle.words.specs.declared.Order as asked
 use Rattle.words.specs.declared.Order.TheVariants.{Report, Renumber, Chain, Followed, Size, Value, Help, Wrong}
 use Rattle.responses.specs.Response.{Holds, answer_to}
@@ -25,7 +22,7 @@ first_bytes room n places bytes (x ∷ xs) size within whole last =
     sym (ap (take room) whole ∙ ap (λ k. take k (take n places ++ (x ∷ xs))) (sym long) ∙ take-append_seam (take n places) (x ∷ xs))
 
 -- an answer to what was read is one to the input
-for_bundle : (order : asked.Order) (n : ℕ) (places text : List ℕ) (before after old new : Option (List ℕ)) → length places ≡ 32769 → n ≤ length places → ReadAll (Bytes n) places before after
+for_bundle : (order : asked.Order) (n : ℕ) (places text : List ℕ) (before after old new : Option (List ℕ)) → length places ≡ 32769 → n ≤ length places → ReadAll (Some n) places before after
     → text ≡ answer_to order (take n places) → Appends old new text → IfSome before (λ bytes. Appends old new (answer_to order bytes))
 for_bundle order n places text None after old new size within reads same wrote = tt
 for_bundle order n places text (Some bytes) None old new size within reads same wrote = absurd reads.0
@@ -34,7 +31,7 @@ for_bundle order n places text (Some bytes) (Some rest) old new size within read
     subst (Appends old new) (same ∙ ap (answer_to order) first ∙ same_answer order bytes) wrote
 
 -- an order of which nothing is said, but for help, reads a bundle, and neither reading nor writing failed
-fine : (order : asked.Order) (read : got.Input) (written : Bool) → message_of order read written ≡ Nothing → order ≢ Help → (reads_bundle order ≡ true) × (failure_of read written ≡ Nothing)
+fine : (order : asked.Order) (read : Option ℕ) (written : Bool) → message_of order read written ≡ None → order ≢ Help → (reads_bundle order ≡ true) × (failure_of read written ≡ None)
 fine Report read written said not_help = (refl, said)
 fine Renumber read written said not_help = (refl, said)
 fine (Chain from to) read written said not_help = (refl, said)
@@ -45,17 +42,17 @@ fine Help read written said not_help = absurd (not_help refl)
 fine Wrong read written said not_help = absurd (cc)
 
 -- what was written where neither failed
-without_failure : (order : asked.Order) (read : got.Input) (written : Bool) (size : ℕ) (places out : List ℕ) (before after old new : Option (List ℕ)) → failure_of read written ≡ Nothing → length places ≡ 32769 → ReadInto read places
+without_failure : (order : asked.Order) (read : Option ℕ) (written : Bool) (size : ℕ) (places out : List ℕ) (before after old new : Option (List ℕ)) → failure_of read written ≡ None → length places ≡ 32769 → ReadInto read places
     → ReadAll read places before after → Holds (output_of order read places) out size → (IsTrue written → Appends old new (take size out)) → IfSome before (λ bytes. Appends old new (answer_to order bytes))
-without_failure order (Bytes n) true size places out before after old new ok long into reads holds wrote =
+without_failure order (Some n) true size places out before after old new ok long into reads holds wrote =
     for_bundle order n places (take size out) before after old new long into reads holds.first (wrote refl)
-without_failure order (Bytes n) false size places out before after old new ok long into reads holds wrote = cc
-without_failure order Failed written size places out before after old new ok long into reads holds wrote = cc
+without_failure order (Some n) false size places out before after old new ok long into reads holds wrote = cc
+without_failure order None written size places out before after old new ok long into reads holds wrote = cc
 
 -- the same for each order
-pub answered : (order : asked.Order) (read : got.Input) (written : Bool) (message : told.Message) (size : ℕ) (places out : List ℕ) (before after old new : Option (List ℕ)) → length places ≡ 32769 → ReadInto read places
+pub answered : (order : asked.Order) (read : Option ℕ) (written : Bool) (message : Option told.Message) (size : ℕ) (places out : List ℕ) (before after old new : Option (List ℕ)) → length places ≡ 32769 → ReadInto read places
     → ReadFor (reads_bundle order) read places before after → Holds (output_of order read places) out size → (order ≢ Help → IsTrue written → Appends old new (take size out))
-    → message ≡ message_of order read written → message ≡ Nothing → order ≢ Help → IfSome before (λ bytes. Appends old new (answer_to order bytes))
+    → message ≡ message_of order read written → message ≡ None → order ≢ Help → IfSome before (λ bytes. Appends old new (answer_to order bytes))
 answered order read written message size places out before after old new long into reads holds wrote is said not_help =
-    let f : (reads_bundle order ≡ true) × (failure_of read written ≡ Nothing) = fine order read written (sym is ∙ said) not_help in
+    let f : (reads_bundle order ≡ true) × (failure_of read written ≡ None) = fine order read written (sym is ∙ said) not_help in
     without_failure order read written size places out before after old new f.1 long into (subst (λ b. ReadFor b read places before after) f.0 reads) holds (wrote not_help)

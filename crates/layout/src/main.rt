@@ -3,19 +3,19 @@
 // refused bundle 7E and the number of its refusal. Messages go to standard error, as when one of the two fails.
 #![tactic(auto)]
 
-ghost use Rattle.std.specs.Prelude.{◌≡◌, ◌≢◌, ◌≤◌, ◌<◌, ◌^◌, false, [], length, take, drop, IfOk, IfSome, IsTrue};
+ghost use Rattle.std.specs.Prelude.{◌≡◌, ◌≢◌, ◌≤◌, false, [], length, None, Some, IfSome, OnOk};
 ghost use Rattle.std.specs.Io.KnownBytes.{Appends};
-ghost use Rattle.layout.specs.Reading.{number_of, TurnWithin, TurnReads, ReadInto, ReadAll, ReadFor};
+ghost use Rattle.layout.specs.Reading.{ReadInto, ReadAll, ReadFor};
 ghost use Rattle.responses.specs.Response.{Holds, answer_to};
 ghost use Rattle.layout.specs.Response.{output_of};
 ghost use Rattle.words.specs.Running.{reads_bundle};
-ghost use Rattle.words.specs.declared.Message.TheVariants.{Nothing, Arguments, Unread};
+ghost use Rattle.words.specs.declared.Message.TheVariants.{Arguments, Unread};
 ghost use Rattle.words.specs.declared.Order.TheVariants.{Help, Wrong};
 
 use std::env::{Env, FillError};
 use std::io;
 use std::io::{Read, Write};
-use words::{Input, Message, Order, Turn};
+use words::{Message, Order};
 
 // Room for the longest bundle and one byte more.
 fn input_buffer() -> [u8; bundle::BYTE_LIMIT + 1]
@@ -28,29 +28,18 @@ fn input_buffer() -> [u8; bundle::BYTE_LIMIT + 1]
 fn argument(rt: &impl Env, i: usize, buf: &mut [u8]) -> usize
     ensures { result ≤ length buf.new }
 {
-    match rt.arg(i, buf) {
-        Ok(n) => n,
-        Err(_) => 0,
-    }
+    rt.arg(i, buf).unwrap_or(0)
 }
 
 // Whether there is an argument with this number.
 fn is_given(rt: &impl Env, i: usize) -> bool {
     let mut places = [0u8; 1];
-    match rt.arg(i, &mut places) {
-        Ok(_) | Err(FillError::TooLong) => true,
-        Err(FillError::NotPresent) => false,
-    }
+    !matches!(rt.arg(i, &mut places), Err(FillError::NotPresent))
 }
 
 // How many arguments there are, the program's own name among them: 5 stands for more too.
 fn argument_count(rt: &impl Env) -> usize {
-    for i in 1..5 {
-        if !is_given(rt, i) {
-            return i;
-        }
-    }
-    5
+    (1..5).find(|&i| !is_given(rt, i)).unwrap_or(5)
 }
 
 // What the program's arguments ask for. One of more than 4,096 bytes counts as empty.
@@ -64,47 +53,24 @@ fn asked(rt: &impl Env) -> Order {
     words::order_of(argument_count(rt), &first[..a], &second[..b], &third[..c])
 }
 
-// What a read says as one number: how many bytes it gave, or -1 where it failed.
-fn number_of(got: io::Result<usize>) -> isize
-    requires { IfOk got (λ n. n < 2 ^ 63) }
-    ensures { result ≡ number_of got }
-{
-    match got {
-        Ok(n) => n as isize,
-        Err(_) => -1,
-    }
-}
-
-// One read of the input into the places from `done` on.
-fn read_more<R: Read>(input: &mut R, buf: &mut [u8], done: usize) -> Turn
-    requires { done ≤ length buf.old }
-    ensures within { TurnWithin result done (length buf.old) }
-    ensures front { take done buf.new ≡ take done buf.old }
-    ensures reads { TurnReads result (drop done buf.new) (R.remaining input.old) (R.remaining input.new) }
-{
-    let got = input.read(&mut buf[done..]);
-    words::turn_of(number_of(got))
-}
-
-// Reads the input until the places are full or it ends.
-fn read_input<R: Read>(input: &mut R, buf: &mut [u8]) -> Input
+// Reads the input until the places are full or it ends. How many bytes it gave, or none where a read failed.
+fn read_input<R: Read>(input: &mut R, buf: &mut [u8]) -> Option<usize>
     ensures into { ReadInto result buf.new }
     ensures all { ReadAll result buf.new (R.remaining input.old) (R.remaining input.new) }
 {
     let mut done = 0;
     while done < buf.len() {
-        let turn = read_more(input, buf, done);
-        match turn {
-            Turn::More(n) => done += n,
-            Turn::End => return Input::Bytes(done),
-            Turn::Failed => return Input::Failed,
+        match input.read(&mut buf[done..]) {
+            Ok(0) => break,
+            Ok(n) => done += n,
+            Err(_) => return None,
         }
     }
-    Input::Bytes(done)
+    Some(done)
 }
 
 // Reads what an order is for: a bundle, or nothing.
-fn read_for<R: Read>(input: &mut R, order: Order, buf: &mut [u8]) -> Input
+fn read_for<R: Read>(input: &mut R, order: Order, buf: &mut [u8]) -> Option<usize>
     ensures into { ReadInto result buf.new }
     ensures reads { ReadFor (reads_bundle order) result buf.new (R.remaining input.old) (R.remaining input.new) }
     ensures unread { reads_bundle order ≡ false → input.new ≡ input.old }
@@ -112,30 +78,29 @@ fn read_for<R: Read>(input: &mut R, order: Order, buf: &mut [u8]) -> Input
     if words::reads_bundle(order) {
         return read_input(input, buf);
     }
-    Input::Bytes(0)
+    Some(0)
 }
 
 // What goes to standard output, but for the text of help.
-fn output(order: Order, read: Input, input: &[u8], out: &mut [u8]) -> usize
+fn output(order: Order, read: Option<usize>, input: &[u8], out: &mut [u8]) -> usize
     requires read_into { ReadInto read input.now }
     requires in_bounds { 90154 ≤ length out.old }
     ensures { Holds (output_of order read input.now) out.new result }
 {
     match read {
-        Input::Bytes(n) => responses::answer(order, &input[..n], out),
-        Input::Failed => 0,
+        Some(n) => responses::answer(order, &input[..n], out),
+        None => 0,
     }
 }
 
-// Writes the answer, or the text of help. Returns whether all of it was written.
-fn write<W: Write>(to: &mut W, order: Order, answer: &[u8]) -> bool
-    ensures all { order ≢ Help → IsTrue result → Appends (W.contents to.old) (W.contents to.new) answer.now }
+// Writes the answer, or the text of help.
+fn write<W: Write>(to: &mut W, order: Order, answer: &[u8]) -> io::Result<()>
+    ensures all { order ≢ Help → OnOk result (Appends (W.contents to.old) (W.contents to.new) answer.now) }
     ensures none { order ≢ Help → answer.now ≡ [] → to.new ≡ to.old }
 {
     if let Order::Help = order {
-        return to
-            .write_all(
-                b"layout checks a bundle of definitions, read from standard input.\n  \
+        return to.write_all(
+            b"layout checks a bundle of definitions, read from standard input.\n  \
               layout                   its report\n  \
               layout renumber          the bundle with its names renumbered\n  \
               layout chain FROM TO     the names on the chain, one to a line\n  \
@@ -145,34 +110,32 @@ fn write<W: Write>(to: &mut W, order: Order, answer: &[u8]) -> bool
               layout help              this text, as with --help or -h\n\
               NUMBER, FROM and TO are decimal numbers from 0 to 65535.\n\
               A bundle that is refused gets two bytes: 7E and the number.\n",
-            )
-            .is_ok();
+        );
     }
     if answer.is_empty() {
-        return true;
+        return Ok(());
     }
-    to.write_all(answer).is_ok()
+    to.write_all(answer)
 }
 
-// Reads, answers and writes. Returns what is to be said on standard error.
-fn run<R: Read, W: Write>(input: &mut R, to: &mut W, order: Order) -> Message
-    ensures answered { result ≡ Nothing → order ≢ Help → IfSome (R.remaining input.old) (λ bytes. Appends (W.contents to.old) (W.contents to.new) (answer_to order bytes)) }
-    ensures unread { result ≡ Unread → to.new ≡ to.old }
-    ensures arguments { result ≡ Arguments → order ≡ Wrong }
-    ensures wrong { order ≡ Wrong → (result ≡ Arguments) × (input.new ≡ input.old) × (to.new ≡ to.old) }
+// Reads, answers and writes. What is to be said on standard error, if something is.
+fn run<R: Read, W: Write>(input: &mut R, to: &mut W, order: Order) -> Option<Message>
+    ensures answered { result ≡ None → order ≢ Help → IfSome (R.remaining input.old) (λ bytes. Appends (W.contents to.old) (W.contents to.new) (answer_to order bytes)) }
+    ensures unread { result ≡ Some Unread → to.new ≡ to.old }
+    ensures arguments { result ≡ Some Arguments → order ≡ Wrong }
+    ensures wrong { order ≡ Wrong → (result ≡ Some Arguments) × (input.new ≡ input.old) × (to.new ≡ to.old) }
 {
     let mut places = input_buffer();
     let read = read_for(input, order, &mut places);
     let mut out = [0; responses::ROOM];
     let size = output(order, read, &places, &mut out);
     let written = write(to, order, &out[..size]);
-    words::message_of(order, read, written)
+    words::message_of(order, read, written.is_ok())
 }
 
 // Says it on standard error. Where that cannot be written, nothing is said.
 fn say(rt: &impl Eprint, message: Message) {
     let _ = match message {
-        Message::Nothing => Ok(()),
         Message::Arguments => rt.eprintln(
             "layout: wrong arguments; take none, renumber, chain FROM TO, followed FROM TO, size NUMBER, value NUMBER (each 0 to 65535) or help",
         ),
@@ -183,6 +146,7 @@ fn say(rt: &impl Eprint, message: Message) {
 
 fn main(rt: HostRuntime) {
     let order = asked(&rt);
-    let message = run(&mut rt.stdin(), &mut rt.stdout(), order);
-    say(&rt, message);
+    if let Some(message) = run(&mut rt.stdin(), &mut rt.stdout(), order) {
+        say(&rt, message);
+    }
 }

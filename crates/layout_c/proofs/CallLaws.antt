@@ -1,14 +1,17 @@
 -- A call's answer, in C's convention.
+use Rattle.std.specs.Prelude.{Err, Ok, Result}
+use Rattle.refusal.specs.declared.Refusal.{Refusal}
+use Rattle.refusal.specs.Numbers.{number}
+use Rattle.refusal.proofs.NumberLaws.{number_within}
+use Rattle.search_from.specs.declared.Listed.{Listed}
+use Rattle.offsets.specs.declared.Placement.{Placement}
 use Prim.Native.Nat.{ℕ, ◌≤◌, ◌<◌}
 use native.Mathlib.Omega.{arith}
 use mathlib.Core.Logic.{◌↔◌, ◌⊎◌, inl, inr}
-use mathlib.Core.Path.{◌≡◌, refl, sym, ap, ap₂, subst, subst⁻¹, ◌∙◌}
+use mathlib.Core.Path.{◌≡◌, refl, sym, ap, ◌∙◌}
 use mathlib.Core.List.{List, [], ◌∷◌}
 use lib.IntN.{ℤ}
 use lib.ListN.{length}
-use mir.Syntax.{w64}
-use mir.Val.{SFits}
-use mir.ValLaws.{to_z-of_z}
 use Rattle.names.specs.Records.{renumber_bytes}
 use Rattle.meaning.specs.Kinds.{body}
 use Rattle.meaning.specs.Tree.{Bundle}
@@ -17,9 +20,6 @@ use Rattle.meaning.specs.Violations.{find_layout_dependency_chain}
 use Rattle.meaning.specs.Report.{report}
 use Rattle.meaning.specs.Calls.{Answer, accepted, refused_with, result, answer_of, Call, on_bundle, acceptance}
 use Rattle.meaning.specs.Due.{reporting, renumbering, chain_names, chaining}
-use Rattle.followed.specs.Followed.{following}
-use Rattle.search_from.specs.declared.Listing.{Listing}
-use Rattle.search_from.specs.declared.Listing.TheVariants.{Listed, Refused as Unlisted}
 use Rattle.search_from.specs.Listing as listing
 use Rattle.search_from.specs.Listing.{CountIs}
 use Rattle.find_chain.specs.ChainCall.{ChainCall}
@@ -29,20 +29,15 @@ use Rattle.refusals.proofs.Laws.{one_number}
 use Rattle.demands.specs.Demands.{Nothing, Demand1}
 use Rattle.demands.proofs.Answering.{refused_number, accept_demand}
 use Rattle.fixed_meaning.specs.Fixed.{sizing, placing}
-use Rattle.fixed_meaning.specs.Value.{Value, valued, unvalued}
+use Rattle.fixed_meaning.specs.Value.{valued, unvalued}
 use Rattle.fixed_meaning.specs.Valuing.{valuing}
 use Rattle.fixed_demand.proofs.Answering.{fixed_number}
 use Rattle.value_demand.specs.Demand.{KnownNumber}
 use Rattle.value_demand.proofs.Answering.{value_number}
-use Rattle.values.specs.declared.Valued.{Valued}
-use Rattle.values.specs.declared.Valued.TheVariants.{Is, Refused as Not}
 use Rattle.values.specs.Meant.{value_meant}
-use Rattle.values.proofs.Sums.{back}
-use Rattle.offsets.specs.declared.Fixed.{Fixed}
-use Rattle.offsets.specs.declared.Fixed.TheVariants.{Sized, Refused}
 use Rattle.offsets.specs.Placed as placed
 use Rattle.offsets.specs.Placed.{Extents, FixedCall}
-use Rattle.layout_c.specs.Convention.{code_of, written_after, CallInC, AcceptInC, followed_after, FollowedInC, size_after, alignment_after, FixedInC, code_of_value, value_after, ValueInC}
+use Rattle.layout_c.specs.Convention.{code_of, written_after, CallInC, AcceptInC, FollowedInC, FixedInC, code_of_value, ValueInC}
 
 -- the number of an answer whose refusals are 1 to `most`
 module _ (most : ℕ) {r : ℕ} where
@@ -81,25 +76,19 @@ pub renumber_in_c : (s : List ℕ) {before after : List ℕ} {a : Answer} {writt
 unfolding renumbering
 renumber_in_c = in_c (λ b. renumber_bytes body (bundle_bytes b))
 
--- The answer about a chain.
-module _ {from to : ℕ} {s before after : List ℕ} {a : Listing} {m : Answer} {written written' r : ℕ} (c : ChainCall from to s before after a) (same : m ≡ listing.answer_meant a) (l : written' ≡ written_after m written) (e : r ≡ code_of m) where
-  pub chain_in_c : CallInC (chaining from to s) before after written written' r
+-- The answer about a chain: given, and not.
+module _ {from to : ℕ} {s before after : List ℕ} {a : Result Listed Refusal} {written written' r : ℕ} (c : ChainCall from to s before after a) (l : written' ≡ written_after (listing.answer_meant a) written) (e : r ≡ code_of (listing.answer_meant a)) where
+  chain_in_c : CallInC (chaining from to s) before after written written' r
   unfolding chaining
-  chain_in_c = in_c (λ b. chain_names (find_layout_dependency_chain b from to)) s (subst⁻¹ (λ a. Call (chaining from to s) before after a) same c.call) l e
+  chain_in_c = in_c (λ b. chain_names (find_layout_dependency_chain b from to)) s c.call l e
 
-  pub followed_in_c : {followed followed' : ℕ} → followed' ≡ followed_after a followed → FollowedInC from to s before after written written' followed followed' r
-  unfolding followed_after listing.answer_meant code_of
-  followed_in_c {followed} {followed'} p = record { call = chain_in_c; count = count a refl; stay = stay a refl }
-    where
-      count : (b : Listing) → a ≡ b → r ≡ 0 → following from to s ≡ result (followed' ∷ [])
-      count (Listed n k) q z = subst (λ a. CountIs (following from to s) a) q c.count ∙ ap (λ k. result (k ∷ [])) (sym (p ∙ ap (λ a. followed_after a followed) q))
-      count (Unlisted k) q z =
-          let y : refused_with k ≡ accepted _ = sym (ap listing.answer_meant q) ∙ c.call.answer ∙ (chain_in_c.zero.0 z).1 in
-          let w : ◌≡◌ {A = ℕ} 0 1 = cc in absurd (omega arith)
+pub chain_given : {from to : ℕ} {s before after : List ℕ} {l : Listed} {written followed : ℕ} → ChainCall from to s before after (Ok l) → FollowedInC from to s before after written l.names followed l.followed 0
+unfolding listing.answer_meant code_of written_after
+chain_given c = record { call = chain_in_c c refl refl; count = λ z. c.count; stay = λ z. absurd (omega arith) }
 
-      stay : (b : Listing) → a ≡ b → 0 < r → followed' ≡ followed
-      stay (Listed n k) q z = absurd (omega (arith, e ∙ ap code_of (same ∙ ap listing.answer_meant q)))
-      stay (Unlisted k) q z = p ∙ ap (λ a. followed_after a followed) q
+pub chain_not_given : {from to : ℕ} {s before after : List ℕ} {x : Refusal} {written followed r : ℕ} → ChainCall from to s before after (Err x) → r ≡ number x → FollowedInC from to s before after written written followed followed r
+unfolding listing.answer_meant code_of written_after
+chain_not_given {x = x} c e = record { call = chain_in_c c refl e; count = λ z. absurd (omega (arith, e, z, (number_within x).0)); stay = λ z. refl }
 
 pub accept_in_c : (s : List ℕ) → Bytes s → (r : ℕ) → r ≡ code_of (answer_of (acceptance s) 0) → AcceptInC s r
 unfolding code_of
@@ -124,92 +113,55 @@ accept_in_c s bytes r e = go d.cases.either
           known = omega (arith, same, one_number s bytes g.0 g.1, (one_to_eight s).1);
         }
 
--- The answer about a fixed size.
-module _ {i : ℕ} {s before after : List ℕ} {f : Fixed} (c : FixedCall i s before after f) (size alignment written : ℕ) {written' r : ℕ} (l : written' ≡ written_after (placed.answer_meant f) written) (e : r ≡ code_of (placed.answer_meant f)) where
-  a : Answer
-  a = answer_of (placing i s) (length before)
+-- The answer about a fixed size: given, and not.
+module _ {i : ℕ} {s before after : List ℕ} {f : Result Placement Refusal} (c : FixedCall i s before after f) {written written' r : ℕ} (l : written' ≡ written_after (placed.answer_meant f) written) (e : r ≡ code_of (placed.answer_meant f)) where
+  fixed_in_c : {size size' alignment alignment' : ℕ} → (r ≡ 0 → sizing i s ≡ result (size' ∷ alignment' ∷ [])) → (0 < r → (size' ≡ size) × (alignment' ≡ alignment)) → FixedInC i s before after size size' alignment alignment' written written' r
+  fixed_in_c given stays =
+      let code = e ∙ ap code_of c.call.answer in
+      let numbered = fixed_number i s (length before) in
+      record {
+        code = code;
+        length_out = l ∙ ap (λ a. written_after a written) c.call.answer;
+        places = c.call.places;
+        extents = given;
+        stay = stays;
+        zero = zero_code 12 (answer_of (placing i s) (length before)) code numbered;
+        known = known_code 12 (answer_of (placing i s) (length before)) code numbered;
+      }
 
-  code_is : r ≡ code_of a
-  unfolding a
-  code_is = e ∙ ap code_of c.call.answer
+pub fixed_given : {i : ℕ} {s before after : List ℕ} {p : Placement} {written size alignment : ℕ} → FixedCall i s before after (Ok p) → FixedInC i s before after size p.size alignment p.alignment written p.offsets 0
+unfolding placed.answer_meant code_of written_after
+fixed_given c = fixed_in_c c refl refl (λ z. c.extents) (λ z. absurd (omega arith))
 
-  numbered : (k : ℕ) → a ≡ refused_with k → (1 ≤ k) × (k ≤ 12)
-  unfolding a
-  numbered = fixed_number i s (length before)
+pub fixed_not_given : {i : ℕ} {s before after : List ℕ} {x : Refusal} {written size alignment r : ℕ} → FixedCall i s before after (Err x) → r ≡ number x → FixedInC i s before after size size alignment alignment written written r
+unfolding placed.answer_meant code_of written_after
+fixed_not_given {x = x} c e = fixed_in_c c refl e (λ z. absurd (omega (arith, e, z, (number_within x).0))) (λ z. (refl, refl))
 
-  extents_out : (f : Fixed) → Extents (sizing i s) f → placed.answer_meant f ≡ a → r ≡ code_of (placed.answer_meant f) → r ≡ 0 → sizing i s ≡ result (size_after f size ∷ alignment_after f alignment ∷ [])
-  unfolding size_after alignment_after placed.answer_meant code_of
-  extents_out (Sized n al count) x p e z = x
-  extents_out (Refused k) x p e z = absurd (omega (arith, (numbered k (sym p)).0, e, z))
+-- The answer about a value: given, and not.
 
-  stays : (f : Fixed) → r ≡ code_of (placed.answer_meant f) → 0 < r → (size_after f size ≡ size) × (alignment_after f alignment ≡ alignment)
-  unfolding size_after alignment_after placed.answer_meant code_of
-  stays (Sized n al count) e z = absurd (omega (arith, e, z))
-  stays (Refused k) e z = (refl, refl)
+over : {k : ℕ} → KnownNumber k → k ≡ 0 → ⊥
+over (inl x) z = omega (arith, x.0)
+over (inr (inl x)) z = omega arith
+over (inr (inr x)) z = omega (arith, x.0)
 
-  pub fixed_in_c : {size' alignment' : ℕ} → size' ≡ size_after f size → alignment' ≡ alignment_after f alignment → FixedInC i s before after size size' alignment alignment' written written' r
-  unfolding a
-  fixed_in_c p q = record {
-    code = code_is;
-    length_out = l ∙ ap (λ a. written_after a written) c.call.answer;
-    places = c.call.places;
-    extents = λ z. rw (p, q) (extents_out f c.extents c.call.answer e z);
-    stay = λ z. let y = stays f e z in (p ∙ y.0, q ∙ y.1);
-    zero = zero_code 12 a code_is numbered;
-    known = known_code 12 a code_is numbered;
-  }
+pub value_given : (i : ℕ) (s : List ℕ) (z value : ℤ) → value_meant (Ok z) ≡ valuing i s → ValueInC i s value z 0
+unfolding value_meant code_of_value
+value_given i s z value e = record {
+  code = ap code_of_value e;
+  given = λ n. sym e;
+  stay = λ n. absurd (omega arith);
+  zero = (λ n. (z, sym e), λ n. refl);
+  known = inl refl;
+}
 
--- The answer about a value.
-
-pub code_of_value_lem : (a : Valued) (z : ℤ) → a ≡ Is z → 0 ≡ code_of_value (value_meant a)
-unfolding code_of_value value_meant
-code_of_value_lem a z e = rw e
-
-pub code_of_refusal : (a : Valued) (k : ℕ) → a ≡ Not k → k ≡ code_of_value (value_meant a)
-unfolding code_of_value value_meant
-code_of_refusal a k e = rw e
-
-pub value_given : (a : Valued) (z value : ℤ) → a ≡ Is z → SFits w64 z → back z ≡ value_after (value_meant a) value
-unfolding value_after value_meant
-value_given a z value e f = to_z-of_z w64 z f ∙ rw e refl
-
-pub value_kept : (a : Valued) (k : ℕ) (value : ℤ) → a ≡ Not k → SFits w64 value → back value ≡ value_after (value_meant a) value
-unfolding value_after value_meant
-value_kept a k value e f = to_z-of_z w64 value f ∙ rw e refl
-
-module _ (i : ℕ) (s : List ℕ) (bytes : Bytes s) (a : Valued) (c : value_meant a ≡ valuing i s) (value out : ℤ) (r : ℕ) where
-  -- what goes in and what goes out have come back from their bits
-  pub value_in_c : SFits w64 value → SFits w64 out → r ≡ code_of_value (value_meant a) → out ≡ value_after (value_meant a) (back value) → ValueInC i s value (back out) r
-  unfolding code_of_value value_after
-  value_in_c f g e p =
-      let code : r ≡ code_of_value (valuing i s) = e ∙ ap code_of_value c in
-      decided (valuing i s) refl code (to_z-of_z w64 out g ∙ p ∙ ap₂ value_after c (to_z-of_z w64 value f))
-    where
-      over : {k : ℕ} → KnownNumber k → k ≡ 0 → ⊥
-      over (inl x) z = omega (arith, x.0)
-      over (inr (inl x)) z = omega arith
-      over (inr (inr x)) z = omega (arith, x.0)
-
-      apart : {k : ℕ} {z : ℤ} → unvalued k ≡ valued z → ⊥
-      apart e = let y : ◌≡◌ {A = ℕ} 0 1 = cc in omega arith
-
-      decided : (v : Value) → valuing i s ≡ v → r ≡ code_of_value (valuing i s) → back out ≡ value_after (valuing i s) value → ValueInC i s value (back out) r
-      decided (valued z) q e o =
-          let nil : r ≡ 0 = e ∙ ap code_of_value q in
-          record {
-            code = e;
-            given = λ h. q ∙ ap valued (sym (o ∙ ap (λ v. value_after v value) q));
-            stay = λ h. absurd (omega (arith, nil));
-            zero = (λ h. (z, q), λ h. nil);
-            known = inl nil;
-          }
-      decided (unvalued k) q e o =
-          let n = value_number i s k bytes q in
-          let same : r ≡ k = e ∙ ap code_of_value q in
-          record {
-            code = e;
-            given = λ h. absurd (over n (sym same ∙ h));
-            stay = λ h. o ∙ ap (λ v. value_after v value) q;
-            zero = (λ h. absurd (over n (sym same ∙ h)), λ h. absurd (apart (sym q ∙ h.1)));
-            known = inr (subst KnownNumber (sym same) n);
-          }
+pub value_not_given : (i : ℕ) (s : List ℕ) (bytes : Bytes s) (x : Refusal) (value : ℤ) (r : ℕ) → value_meant (Err x) ≡ valuing i s → r ≡ number x → ValueInC i s value value r
+unfolding value_meant code_of_value
+value_not_given i s bytes x value r e q =
+    let low = (number_within x).0 in
+    record {
+      code = q ∙ ap code_of_value e;
+      given = λ n. absurd (omega (arith, q, n, low));
+      stay = λ n. refl;
+      zero = (λ n. absurd (omega (arith, q, n, low)), λ n. let y : unvalued (number x) ≡ valued n.0 = e ∙ n.1 in let w : ◌≡◌ {A = ℕ} 0 1 = cc in absurd (omega arith));
+      known = inr (rw q (value_number i s (number x) bytes (sym e)));
+    }

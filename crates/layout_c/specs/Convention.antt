@@ -9,10 +9,6 @@ use Rattle.fixed_meaning.specs.Fixed.{sizing, placing}
 use Rattle.fixed_meaning.specs.Value.{Value, valued, unvalued}
 use Rattle.fixed_meaning.specs.Valuing.{valuing}
 use Rattle.value_demand.specs.Demand.{KnownNumber}
-use Rattle.search_from.specs.declared.Listing.{Listing}
-use Rattle.search_from.specs.declared.Listing.TheVariants.{Listed, Refused as Unlisted}
-use Rattle.offsets.specs.declared.Fixed.{Fixed}
-use Rattle.offsets.specs.declared.Fixed.TheVariants.{Sized, Refused}
 
 -- 0 for an acceptance, and else the number of the refusal
 unfoldable pub code_of : Answer → ℕ
@@ -40,27 +36,12 @@ pub record AcceptInC (s : List ℕ) (r : ℕ) : Type 0 where
   pub zero : (r ≡ 0) ↔ ((b : Bundle) × Keeps s b)
   pub known : r ≤ 8
 
--- the count that stands where `followed` points: that of the call on an acceptance, what it was on a refusal
-unfoldable pub followed_after : Listing → ℕ → ℕ
-followed_after (Listed n count) followed = count
-followed_after (Unlisted k) followed = followed
-
 -- The call for a chain of the bytes s that also gives the count of followed names returns r: all is as with every call, and the count
 -- becomes the one due on an acceptance and stays on a refusal.
 pub record FollowedInC (from to : ℕ) (s before after : List ℕ) (written written' followed followed' r : ℕ) : Type 0 where
   pub call : CallInC (chaining from to s) before after written written' r
   pub count : r ≡ 0 → following from to s ≡ result (followed' ∷ [])
   pub stay : 0 < r → followed' ≡ followed
-
--- the size that stands where `size` points: the definition's on an acceptance, what it was on a refusal
-unfoldable pub size_after : Fixed → ℕ → ℕ
-size_after (Sized n a count) size = n
-size_after (Refused k) size = size
-
--- and so the alignment
-unfoldable pub alignment_after : Fixed → ℕ → ℕ
-alignment_after (Sized n a count) alignment = a
-alignment_after (Refused k) alignment = alignment
 
 -- The call for definition i of the bytes s returns r: its list and `written` change as with every call, and size and alignment become
 -- those due on an acceptance and stay on a refusal. r is 0 exactly where the call is accepted, and else one of the numbers 1 to 12.
@@ -77,11 +58,6 @@ pub record FixedInC (i : ℕ) (s before after : List ℕ) (size size' alignment 
 unfoldable pub code_of_value : Value → ℕ
 code_of_value (valued z) = 0
 code_of_value (unvalued k) = k
-
--- what stands where `value` points: the value that is due, and what it was on a refusal
-unfoldable pub value_after : Value → ℤ → ℤ
-value_after (valued z) value = z
-value_after (unvalued k) value = value
 
 -- The call for the value of the size of definition i of the bytes s returns r: 0 exactly where there is a value, which is then given, and
 -- else one of the numbers 1 to 8, 11 and 13 to 15, where the value stays.

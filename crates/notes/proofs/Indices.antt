@@ -1,6 +1,8 @@
 -- The field to which a reference leads, by what is noted of the fields.
 --     index_other, -nowhere, -found   the field part is no name, the type is not defined, it is
 --     index_small                     the index is a number of 16 bits
+use Rattle.std.specs.Prelude as code
+use Rattle.std.specs.Prelude.{Some, None, IfSome}
 use Prim.Native.Nat.{ℕ, suc, ◌+◌, ◌≤◌, ◌<◌}
 use mathlib.Core.Path.{◌≡◌, refl, sym, ap, ◌∙◌}
 use mathlib.Core.Logic.{by_cases}
@@ -11,19 +13,18 @@ use native.Mathlib.Omega.{arith}
 use native.Mathlib.Decide.{dec_lt}
 use lib.ListN.{length, get_or}
 use Rattle.meaning.specs.Lists.{first_index}
-use Rattle.meaning.specs.Lookup.{names_field, member_name, as_struct, find_type}
+use Rattle.meaning.specs.Lookup.{list_of, names_field, member_name, as_struct, find_type}
 use Rattle.meaning.specs.Tree.{Ty, primitive, type_ref, struct, union, enum, array, size_union, Member}
 use Rattle.meaning.specs.Violations.{struct_of}
-use Rattle.bundle.specs.Definitions.{type_at, bundle_of, Table}
+use Rattle.bundle.specs.Definitions.{type_at, bundle_of}
 use Rattle.sizes.specs.Scan.{path_at}
 use Rattle.fields.specs.Shapes.{DefinitionIs}
 use Rattle.fields.specs.Sought.{named, shown}
-use Rattle.fields.proofs.Lookups.{definition_placed, struct_none}
+use Rattle.fields.proofs.Lookups.{struct_none}
 use Rattle.field_index.specs.Noted.{starts_at, struct_fields, fields_at, index_shown, FieldsNoted}
-use Rattle.checks.specs.declared.Part.TheVariants as part
 use Rattle.checks.specs.Checks.{target_at, type_part, PartOf}
 use Rattle.checks.proofs.ForwardChecks.{no_field}
-use Rattle.notes.specs.Notes.{first_shown, index_for}
+use Rattle.notes.specs.Notes.{first_shown, listed, index_for}
 
 -- a field part that is not one name is no field of a struct
 no_first : (field : List ℕ) → (length field ≡ 1 → ⊥) → (ms : List Member) → first_index (names_field field) ms ≡ none
@@ -31,17 +32,21 @@ no_first field ne [] = refl
 no_first field ne (m ∷ ms) = rw (no_first field ne ms, no_field field ne (member_name m))
 
 -- of one name, in the fields of a type
-shown_fields : (f : ℕ) (t : Ty) → first_shown (f ∷ []) (as_struct t) ≡ index_shown false f (struct_fields t)
+listed_shown : (o : Option ℕ) → listed (index_shown o) ≡ shown o
+listed_shown none = refl
+listed_shown (some i) = omega arith
+
+shown_fields : (f : ℕ) (t : Ty) → first_shown (f ∷ []) (as_struct t) ≡ listed (index_shown (first_index (named f) (struct_fields t)))
 shown_fields f (primitive k) = refl
 shown_fields f (type_ref n) = refl
-shown_fields f (struct a ms) = refl
+shown_fields f (struct a ms) = sym (listed_shown (first_index (named f) (list_of ms)))
 shown_fields f (union a ms) = refl
 shown_fields f (enum a tag ms) = refl
 shown_fields f (array a jagged size element) = refl
 shown_fields f (size_union a ms) = refl
 
 module _ (s : List ℕ) (p : ℕ) where
-  pub index_other : PartOf (path_at s p) part.Other → 0 ≡ index_for (bundle_of s) (target_at s p)
+  pub index_other : PartOf (path_at s p) None → 0 ≡ index_for (bundle_of s) (target_at s p)
   index_other g = go (struct_of (bundle_of s) (type_part s p))
     where
       go : (o : Option (List Member)) → 0 ≡ first_shown (target_at s p).field o
@@ -52,13 +57,10 @@ module _ (s : List ℕ) (p : ℕ) where
     pub index_nowhere : find_type (bundle_of s) x ≡ none → 0 ≡ index_for (bundle_of s) (target_at s p)
     index_nowhere h = sym (ap (first_shown (target_at s p).field) (ap (struct_of (bundle_of s)) (sym e) ∙ struct_none s x h))
 
-    pub index_found : {n : ℕ} {places : List ℕ} → Table s n places → {i at : ℕ} → DefinitionIs s n x i at → {f : ℕ} → PartOf (path_at s p) (part.One f) → {r : ℕ}
-        → r ≡ index_shown false f (fields_at s places i) → r ≡ index_for (bundle_of s) (target_at s p)
+    pub index_found : {n i at f : ℕ} → DefinitionIs s n x i at → PartOf (path_at s p) (Some f) → {r : code.Option ℕ}
+        → r ≡ index_shown (first_index (named f) (struct_fields (type_at 24 s at))) → listed r ≡ index_for (bundle_of s) (target_at s p)
     unfolding struct_of
-    index_found {places = places} t {i} d {f} g q =
-        q
-        ∙ sym (shown_fields f (type_at 24 s (get_or places i 0)))
-        ∙ rw (g (bundle_of s).current, ← e, (definition_placed t d).is) refl
+    index_found {at = at} {f = f} d g q = ap listed q ∙ sym (shown_fields f (type_at 24 s at)) ∙ rw (g (bundle_of s).current, ← e, d.is) refl
 
 -- an index is below the count of fields
 shown_next : (o : Option ℕ) → shown (map suc o) ≤ suc (shown o)
@@ -73,10 +75,18 @@ shown_bound test (m ∷ ms) = go (test m) (shown_bound test ms)
     go true h = omega arith
     go false h = omega (arith, shown_next (first_index test ms))
 
-pub index_small : {s places : List ℕ} {n : ℕ} → FieldsNoted s places n → {i : ℕ} → i < n → ((k : ℕ) → get_or places k 0 < 65536) → (f : ℕ) → index_shown false f (fields_at s places i) < 65536
-index_small {s} {places} o {i} c l f =
-    by_cases (dec_lt 0 (get_or places (starts_at + i) 0))
-    (λ (h : 0 < get_or places (starts_at + i) 0). omega (arith, shown_bound (named f) (fields_at s places i), ((o.each i c).part h).count, l (get_or places (starts_at + i) 0)))
-    (λ (h : ¬ (0 < get_or places (starts_at + i) 0)).
-    let no : fields_at s places i ≡ [] = (o.each i c).none (omega arith) in
-    rw no (omega arith))
+pub index_small : {s places : List ℕ} {n : ℕ} → FieldsNoted s places n → {i : ℕ} → i < n → ((k : ℕ) → get_or places k 0 < 65536) → (f : ℕ) → {r : code.Option ℕ}
+    → r ≡ index_shown (first_index (named f) (fields_at s places i)) → IfSome r (λ k. k < 65535)
+index_small {s} {places} o {i} c l f e = rw e (small (first_index (named f) (fields_at s places i)) below)
+  where
+    below : shown (first_index (named f) (fields_at s places i)) < 65536
+    below =
+        by_cases (dec_lt 0 (get_or places (starts_at + i) 0))
+        (λ (h : 0 < get_or places (starts_at + i) 0). omega (arith, shown_bound (named f) (fields_at s places i), ((o.each i c).part h).count, l (get_or places (starts_at + i) 0)))
+        (λ (h : ¬ (0 < get_or places (starts_at + i) 0)).
+        let no : fields_at s places i ≡ [] = (o.each i c).none (omega arith) in
+        rw no (omega arith))
+
+    small : (o : Option ℕ) → shown o < 65536 → IfSome (index_shown o) (λ k. k < 65535)
+    small none h = tt
+    small (some i) h = omega (arith, h)

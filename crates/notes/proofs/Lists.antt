@@ -1,7 +1,7 @@
 -- The references of the definitions are listed one definition after the other.
 --     refs_there, refs_room        the references of one definition
---     none_listed, all_listed      a definition that needs none of them, one that needs all
 --     listing_start, -next, -end   the walk over the definitions
+use Rattle.std.specs.Prelude.{Ok}
 use Prim.Native.Nat.{ℕ, zero, suc, ◌+◌, ◌-◌, ◌*◌, ◌≤◌, ◌<◌}
 use mathlib.Core.Path.{◌≡◌, refl, sym, ap, ap₂, ◌∙◌}
 use mathlib.Core.Logic.{by_cases}
@@ -14,7 +14,6 @@ use lib.ListN.{length, get_or, set}
 use lib.Seq.{get_or-set_same, get_or-set_other}
 use Rattle.meaning.specs.ReadType.{read_ty}
 use Rattle.bundle.specs.declared.Layout.{Layout}
-use Rattle.bundle.specs.declared.Step.TheVariants.{Next}
 use Rattle.bundle.specs.View.{step_of}
 use Rattle.bundle.specs.Definitions.{type_at, Table}
 use Rattle.bundle.specs.Opened.{LayoutOf}
@@ -31,9 +30,9 @@ pub few : {s : List ℕ} {n : ℕ} {places : List ℕ} → Table s n places → 
 few t = omega (arith, t.count, t.placed.room)
 
 -- where definition i ends
-end_is : {s : List ℕ} {n : ℕ} {places : List ℕ} → Table s n places → {i : ℕ} → i < n → {end : ℕ} → Next end ≡ step_of (read_ty 24 s (get_or places i 0)) → end ≡ get_or places (i + 1) 0 - 3
+end_is : {s : List ℕ} {n : ℕ} {places : List ℕ} → Table s n places → {i : ℕ} → i < n → {end : ℕ} → Ok end ≡ step_of (read_ty 24 s (get_or places i 0)) → end ≡ get_or places (i + 1) 0 - 3
 end_is {places = places} t {i} l {end} e =
-    let both : Next end ≡ Next (get_or places (i + 1) 0 - 3) = e ∙ sym (t.placed.ends i (omega (arith, t.count))) in cc
+    let both : Ok end ≡ Ok (get_or places (i + 1) 0 - 3) = e ∙ sym (t.placed.ends i (omega (arith, t.count))) in cc
 
 -- the references of definition i lie within the bytes
 refs_fit : {s : List ℕ} {n : ℕ} {places : List ℕ} → Table s n places → {i : ℕ} → i < n → Fits s (references_of s places i)
@@ -196,14 +195,7 @@ module _ {s : List ℕ} {l : Layout} {u : List ℕ} {used i : ℕ} (c : Listing 
 
 -- the references of definition i, which ends at `end`
 module _ {s : List ℕ} {n : ℕ} {places : List ℕ} (t : Table s n places) {i : ℕ} (l : i < n) {at : ℕ} (e : at ≡ get_or places i 0) where
-  pub none_listed : (used : ℕ) → false ≡ needs_references (type_at 24 s at) → Lists s places used used (needed_of s places i) × Within used used places places
-  none_listed used h =
-      let no : needs_references (type_at 24 s (get_or places i 0)) ≡ false = ap (λ x. needs_references (type_at 24 s x)) (sym e) ∙ sym h in (
-        rw no refl,
-        record { size = refl; before = λ i c. refl; behind = λ i c. refl },
-      )
-
-  module _ {end : ℕ} (q : Next end ≡ step_of (read_ty 24 s (get_or places i 0))) where
+  module _ {end : ℕ} (q : Ok end ≡ step_of (read_ty 24 s (get_or places i 0))) where
     refs_are : references_from s at end ≡ references_of s places i
     refs_are = ap₂ (references_from s) e (end_is t l q)
 
@@ -212,8 +204,3 @@ module _ {s : List ℕ} {n : ℕ} {places : List ℕ} (t : Table s n places) {i 
 
     pub refs_room : {used : ℕ} → RoomFor places used (length (references_of s places i)) → RoomFor places used (length (references_from s at end))
     refs_room r = rw refs_are r
-
-    pub all_listed : (used r : ℕ) (u : List ℕ) → true ≡ needs_references (type_at 24 s at) → Lists s u r used (references_from s at end) → Lists s u r used (needed_of s places i)
-    all_listed used r u h k =
-        let yes : needs_references (type_at 24 s (get_or places i 0)) ≡ true = ap (λ x. needs_references (type_at 24 s x)) (sym e) ∙ sym h in
-        rw yes (rw refs_are at k)

@@ -1,7 +1,7 @@
 -- What is noted of a bundle behind the places of its definitions: the fields of its structs, and the references of its definitions with
 -- the fields to which they lead.
-use Rattle.std.specs.Prelude.{ℕ, ◌+◌, ◌≤◌, ◌<◌, Bool, false, not, cond, ◌&&◌, List, [], ◌∷◌, ◌≡◌, length, get_or}
-use Rattle.std.proofs.Math.Option.{Option, none, some}
+use Rattle.std.specs.Prelude.{ℕ, ◌+◌, ◌≤◌, ◌<◌, Bool, false, not, cond, ◌&&◌, List, [], ◌∷◌, ◌≡◌, length, get_or, Option, Some, None}
+use Rattle.std.proofs.Math.Option as option
 use Rattle.meaning.specs.Limits.{definition_limit}
 use Rattle.meaning.specs.Lists.{first_index}
 use Rattle.meaning.specs.Lookup.{Target, names_field}
@@ -34,13 +34,18 @@ abbrev pub needed_of : List ℕ → List ℕ → ℕ → List ℕ
 needed_of s places i = cond (needs_references (type_at 24 s (get_or places i 0))) (references_of s places i) []
 
 -- one more than the index of the first of a struct's fields that is the field part, and 0 where there is none
-abbrev pub first_shown : List ℕ → Option (List Member) → ℕ
-first_shown field none = 0
-first_shown field (some ms) = shown (first_index (names_field field) ms)
+abbrev pub first_shown : List ℕ → option.Option (List Member) → ℕ
+first_shown field option.none = 0
+first_shown field (option.some ms) = shown (first_index (names_field field) ms)
 
 -- the same of the first definition of the type that a reference means, if that is a struct
 abbrev pub index_for : Bundle → Target → ℕ
 index_for b target = first_shown target.field (struct_of b target.type)
+
+-- how an index is listed
+abbrev pub listed : Option ℕ → ℕ
+listed None = 0
+listed (Some k) = k + 1
 
 -- what is listed at a of the reference at p: the type that it means, the field, where it is written
 pub record Entry (s places : List ℕ) (a p : ℕ) : Type 0 where

@@ -2,7 +2,7 @@
 // A list has for each reference the name of the type that it means, one more than the index of the field, and where it is written.
 #![tactic(auto)]
 
-ghost use Rattle.std.specs.Prelude.{◌≡◌, ◌+◌, ◌*◌, ◌≤◌, ◌<◌, length};
+ghost use Rattle.std.specs.Prelude.{◌≡◌, IfSome, ◌+◌, ◌*◌, ◌≤◌, ◌<◌, length};
 ghost use Rattle.meaning.specs.Limits.{size_limit};
 ghost use Rattle.meaning.specs.ReadType.{read_ty};
 ghost use Rattle.bundle.specs.View.{Reads};
@@ -13,20 +13,18 @@ ghost use Rattle.sizes.specs.Paths.{Fit};
 ghost use Rattle.sizes.specs.Scan.{references_from, Fits};
 ghost use Rattle.field_index.specs.Noted.{parts_at, references_of, ConstantsNoted, FieldsNoted, FieldsBelow, NotedBelow};
 ghost use Rattle.checks.specs.Checks.{target_at, type_part};
-ghost use Rattle.notes.specs.Notes.{is_constant_array, needs_references, needed_of, index_for, Entry, Lists, Noted};
+ghost use Rattle.notes.specs.Notes.{is_constant_array, needs_references, needed_of, index_for, listed, Entry, Lists, Noted};
 ghost use Rattle.notes.specs.Listing.{RoomFor};
 
 use bundle::Layout;
-use checks::{Part, Reference};
-use fields::{Definition, Shape};
+use fields::Shape;
 
 // Whether the type that was read at `at` is an array of constant size.
 fn is_constant_array(s: &[u8], at: usize) -> bool
     requires { Reads (read_ty 24 s.now at) × (length s.now ≤ size_limit) }
     ensures { result ≡ is_constant_array (type_at 24 s.now at) }
 {
-    let shape = fields::shape_at(s, at, bundle::DEPTH_LIMIT);
-    let Shape::Array(_) = shape else {
+    let Shape::Array(_) = fields::shape_at(s, at, bundle::DEPTH_LIMIT) else {
         return false;
     };
     sizes::is_constant(s, at + 11, bundle::DEPTH_INSIDE)
@@ -43,21 +41,26 @@ fn needs_references(s: &[u8], at: usize) -> bool
     !is_constant_array(s, at)
 }
 
-// One more than the index of the first field that is the field part of the reference at `path`, in the first definition of the name
-// `container`, if that is a struct; 0 where there is none.
-fn index_for(s: &[u8], places: &[u16], count: usize, path: usize, container: u16) -> u16
+// The index of the first field that is the field part of the reference at `path`, in the first definition of the name `container`, if that
+// is a struct with one.
+fn index_for(s: &[u8], places: &[u16], count: usize, path: usize, container: u16) -> Option<usize>
     requires { Table s.now count places.now × Fit s.now path × (container ≡ type_part s.now path) × FieldsNoted s.now places.now count }
-    ensures { result ≡ index_for (bundle_of s.now) (target_at s.now path) }
+    ensures { (listed result ≡ index_for (bundle_of s.now) (target_at s.now path)) × IfSome result (λ k. k < 65535) }
 {
-    let part = checks::field_part(s, path);
-    let Part::One(field) = part else {
-        return 0;
-    };
-    let found = fields::find_definition(s, places, count, container);
-    let Definition::At(i, _) = found else {
-        return 0;
-    };
-    field_index::index_of(places, i, false, field) as u16
+    let field = checks::field_part(s, path)?;
+    let i = lookup::definition_of(s, places, count, container)?;
+    field_index::first_index_of(places, i, field)
+}
+
+// How an index is listed: as a number, since its place has 16 bits.
+fn listed(index: Option<usize>) -> u16
+    requires { IfSome index (λ k. k < 65535) }
+    ensures { result ≡ listed index }
+{
+    match index {
+        Some(k) => k as u16 + 1,
+        None => 0,
+    }
 }
 
 // Lists the reference at `path` in the three places at `used`.
@@ -68,7 +71,7 @@ fn put_entry(s: &[u8], places: &mut [u16], layout: Layout, path: usize, used: us
     let target = sizes::parse_field_reference(s, path, layout.current);
     let index = index_for(s, places, layout.definitions, path, target.name);
     places[used] = target.name;
-    places[used + 1] = index;
+    places[used + 1] = listed(index);
     places[used + 2] = path as u16;
 }
 
@@ -86,11 +89,7 @@ fn list_from(
 {
     let mut next = at;
     let mut to = used;
-    while next < end {
-        let reference = checks::reference_at(s, next, end);
-        let Reference::At(p, after) = reference else {
-            return to;
-        };
+    while let Some((p, after)) = checks::reference_at(s, next, end) {
         put_entry(s, places, layout, p, to);
         next = after;
         to += 3;
@@ -118,11 +117,9 @@ fn list_references(s: &[u8], places: &mut [u16], layout: Layout, used: usize)
 {
     places[field_index::LISTS_AT] = used as u16;
     let mut to = used;
-    let mut i = 0;
-    while i < layout.definitions {
+    for i in 0..layout.definitions {
         to = list_definition(s, places, layout, i, to);
-        i += 1;
-        places[field_index::LISTS_AT + i] = to as u16;
+        places[field_index::LISTS_AT + (i + 1)] = to as u16;
     }
 }
 

@@ -1,4 +1,8 @@
 -- Where a definition's fields are, and their offsets, in the form in which the code returns them.
+use Rattle.std.specs.Prelude.{Err, Ok, Result}
+use Rattle.refusal.specs.declared.Refusal.{Refusal}
+use Rattle.refusal.specs.declared.Refusal.TheVariants.{NoRoom, Varies}
+use Rattle.refusal.specs.Numbers.{number}
 use Prim.Native.Nat.{ℕ, zero, suc, ◌+◌, ◌-◌, ◌*◌, ◌≤◌, ◌<◌, max}
 use native.Mathlib.Omega.{arith}
 use native.Mathlib.Numerals.{add-one}
@@ -6,8 +10,6 @@ use mathlib.Core.Bool.{Bool, true, false, cond, true≢false, false≢true}
 use mathlib.Core.List.{List, [], ◌∷◌, ◌++◌, Memᴰ, append_assoc, append-nil}
 use mathlib.Core.Option.{none as nothing}
 use mathlib.Core.Path.{◌≡◌, refl, sym, ap, subst, ◌∙◌}
-use types.Run.{OneOf, miss}
-use denote.Enum.Declared.{tag_of}
 use lib.ListN.{length, get_or, set, take, drop, length-set, take-append-drop}
 use lib.Seq.{take-suc-set, drop-set-lt}
 use borrow.Author.Tests.{le-leb, lt-leb, leb-true}
@@ -19,19 +21,16 @@ use Rattle.meaning.specs.Lookup.{count, definition_of, find_type}
 use Rattle.meaning.specs.Lookup as lookup
 use Rattle.meaning.specs.Reader.{little}
 use Rattle.meaning.proofs.Heads.{little_2}
-use Rattle.meaning.specs.ReadType.{head, member_head, read_group, read_ty}
+use Rattle.meaning.specs.ReadType.{head, member_head, read_group, read_members, read_ty}
 use Rattle.meaning.specs.Tree.{Ty, type_ref, struct, Attributes, Members, more, none, Bundle}
 use Rattle.meaning.specs.Calls as calls
 use Rattle.meaning.specs.Calls.{Outcome, refusal, on_bundle, due_of, answer_of, places_after}
 use Rattle.bundle.specs.declared.TypeForm.{TypeForm}
 use Rattle.bundle.specs.declared.TypeForm.TheVariants as code
-use Rattle.bundle.specs.declared.Count.TheVariants.{Of as Counts}
-use Rattle.bundle.specs.declared.Step.TheVariants.{Next}
 use Rattle.bundle.specs.declared.Layout.{Layout}
 use Rattle.bundle.specs.View.{step_of, count_of, type_form_meant, Reads, value_or}
 use Rattle.bundle.specs.Definitions.{type_at, members_at, zero_group, bundle_of, Table}
 use Rattle.bundle.specs.Opened.{LayoutOf}
-use Rattle.bundle.specs.contracts.TypeForm.{the_type}
 use Rattle.bundle.proofs.ExprLaws.{Opened}
 use Rattle.scan.specs.Parts.{lead, type_parts, is_lead}
 use Rattle.scan.specs.Scan.{record_name, part_at, Run}
@@ -47,19 +46,15 @@ use Rattle.fixed_meaning.specs.Extent.{sized, unsized, largest, bounded, offset_
 use Rattle.fixed_meaning.proofs.Within.{Agree, measure_local, offsets_local, extent_equation, no_definition}
 use Rattle.fixed_meaning.specs.Fixed.{measure, measure_member, measure_all, measured, extent_of, field_offset, field_offsets, offsets_of, offsets_in, offsets_within, definition_extent, definition_offsets, given, sizing, placing}
 use Rattle.extents.specs.declared.Extent.{Extent}
-use Rattle.extents.specs.declared.Extent.TheVariants.{Sized as Part, Unsized}
 use Rattle.extents.specs.Meant.{extent_meant, Open, attributes, join_of}
 use Rattle.fixed.specs.declared.Measured.{Measured}
-use Rattle.fixed.specs.Kept.{known}
+use Rattle.fixed.specs.Kept.{Extents, known}
 use Rattle.fixed.specs.Walk.{part_of, members_of, IsRead}
-use Rattle.fixed.proofs.WalkLaws.{group_count, group_attributes, Joining, joining_next}
+use Rattle.fixed.proofs.WalkLaws.{group_count, group_attributes, Joining, joining_start, joining_next}
 use Rattle.fixed_definitions.specs.Keeping.{Known, KeptExtents}
 use Rattle.fixed_definitions.proofs.KeepingLaws.{agree}
-use Rattle.offsets.specs.declared.Fixed.{Fixed}
-use Rattle.offsets.specs.declared.Fixed.TheVariants.{Sized, Refused}
-use Rattle.offsets.specs.declared.Fields.{Fields}
-use Rattle.offsets.specs.declared.Fields.TheVariants.{Of, Nothing}
-use Rattle.offsets.specs.Placed.{answer_meant, HasEnd, Answered, Placing, FixedCall, Resolved, FieldsFrom, FieldsAre}
+use Rattle.offsets.specs.declared.Placement.{Placement}
+use Rattle.offsets.specs.Placed.{answer_meant, HasEnd, Answered, Placing, FixedCall, Resolved, FieldsFrom}
 
 -- a struct that has a size has fields with an end
 closed_end : (a : Attributes) (e : meaning.Extent) (n m : ℕ) → closed a e ≡ sized n m → HasEnd e
@@ -101,11 +96,11 @@ module _ (s : List ℕ) (end at : ℕ) where
 
 -- a type that was read, by its form
 module _ {d at : ℕ} {s : List ℕ} {f : Form} (o : Opened d at s f) (r : Reads (read_ty d s at)) where
-  pub not_struct : (t : TypeForm) → f ≡ OfType (type_form_meant t) → OneOf (0 ∷ 1 ∷ 3 ∷ 4 ∷ 5 ∷ 6 ∷ []) (tag_of the_type t) → (known : ℕ → meaning.Extent) → offsets_of (type_at d s at) known (λ n. []) ≡ []
+  pub not_struct : (t : TypeForm) → f ≡ OfType (type_form_meant t) → (t ≡ code.Struct → ⊥) → (known : ℕ → meaning.Extent) → offsets_of (type_at d s at) known (λ n. []) ≡ []
   unfolding type_form_meant
   not_struct code.Primitive p k known = rw (primitive_tree o r p)
   not_struct code.TypeRef p k known = rw (type_ref_tree o r p)
-  not_struct code.Struct p k known = absurd (miss (0 ∷ 1 ∷ 3 ∷ 4 ∷ 5 ∷ 6 ∷ []) 2 tt k)
+  not_struct code.Struct p k known = absurd (k refl)
   not_struct code.Union p k known = rw (union_tree o r zero_group p)
   not_struct code.Enum p k known = rw (enum_at o r p).parts.tree
   not_struct code.Array p k known = rw (array_at o r p).parts.tree
@@ -122,7 +117,7 @@ module _ {d at : ℕ} {s : List ℕ} {f : Form} (o : Opened d at s f) (r : Reads
       let q = subst (λ x. Reads (read_group (read_ty x) 0x50 s (at + 1))) e (struct_reads o r p) in
       let u : at + 1 + 9 ≡ at + 10 = omega arith in
       let v : at + 1 + 11 ≡ at + 12 = omega arith in
-      let c : Counts n (at + 12) ≡ count_of (head 2 s (at + 1)) = rw (k, ← u, ← v) (group_count 23 s (at + 1) 0x50 q) in
+      let c : Ok (n, at + 12) ≡ count_of (head 2 s (at + 1)) = rw (k, ← u, ← v) (group_count 23 s (at + 1) 0x50 q) in
       let t : type_at 24 s at ≡ struct (attributes (get_or s (at + 1) 0) (little s (at + 1 + 1) 8)) (members_at 23 0x50 n s (at + 12)) =
       ap (λ x. type_at x s at) (sym z)
       ∙ struct_tree o r zero_group p
@@ -137,37 +132,37 @@ module _ {d at : ℕ} {s : List ℕ} {f : Form} (o : Opened d at s f) (r : Reads
         end = λ known size al w. closed_end _ _ size al (sym (ap (λ x. measure x known) t) ∙ w);
       }
 
--- The TypeRefs of a definition: k more may be followed from definition i.
-pub record Following (s : List ℕ) (n start i k : ℕ) : Type 0 where
+-- The TypeRefs of a definition: `done` were followed, to definition i, of at most n.
+pub record Following (s : List ℕ) (n start i done : ℕ) : Type 0 where
   pub below : i < n
-  pub offsets : definition_offsets (bundle_of s) start ≡ offsets_in (lookup.type_at (bundle_of s) i) (extent_of (bundle_of s)) (offsets_within (bundle_of s) k)
+  pub offsets : definition_offsets (bundle_of s) start ≡ offsets_in (lookup.type_at (bundle_of s) i) (extent_of (bundle_of s)) (offsets_within (bundle_of s) (n - done))
   pub extent : definition_extent (bundle_of s) start ≡ definition_extent (bundle_of s) i
-  pub kept : (kept : List ℕ) → KeptExtents s kept → Known s kept start → Known s kept i
+  pub kept : (kept : Extents) → KeptExtents s kept → Known s kept start → Known s kept i
 
 module _ {s : List ℕ} {n : ℕ} {places : List ℕ} (tb : Table s n places) (c : circles (bundle_of s) ≡ false) where
-  pub following_start : (i : ℕ) → i < n → Following s n i i n
+  pub following_start : (i : ℕ) → i < n → Following s n i i 0
   unfolding definition_offsets
   following_start i h = record {
     below = h;
-    offsets = ap (λ k. offsets_in (lookup.type_at (bundle_of s) i) (extent_of (bundle_of s)) (offsets_within (bundle_of s) k)) (sym tb.count);
+    offsets = ap (λ k. offsets_in (lookup.type_at (bundle_of s) i) (extent_of (bundle_of s)) (offsets_within (bundle_of s) k)) (omega (arith, tb.count));
     extent = refl;
     kept = λ kept g k. k;
   }
 
-  module _ {start i k : ℕ} (f : Following s n start i k) where
+  module _ {start i done : ℕ} (f : Following s n start i done) where
     type : Ty
     type = type_at 24 s (get_or places i 0)
 
-    here : definition_offsets (bundle_of s) start ≡ offsets_of type (extent_of (bundle_of s)) (offsets_within (bundle_of s) k)
+    here : definition_offsets (bundle_of s) start ≡ offsets_of type (extent_of (bundle_of s)) (offsets_within (bundle_of s) (n - done))
     unfolding offsets_in type
-    here = f.offsets ∙ ap (λ o. offsets_in o (extent_of (bundle_of s)) (offsets_within (bundle_of s) k)) (placed_type tb i f.below)
+    here = f.offsets ∙ ap (λ o. offsets_in o (extent_of (bundle_of s)) (offsets_within (bundle_of s) (n - done))) (placed_type tb i f.below)
 
     is_part : definition_extent (bundle_of s) start ≡ measure type (extent_of (bundle_of s))
     unfolding definition_extent measured type
     is_part = f.extent ∙ ap (λ o. measured o (extent_of (bundle_of s))) (placed_type tb i f.below)
 
     -- where it leads
-    leads : (j : ℕ) → Memᴰ j (resolve (bundle_of s) (type_names type)) → (kept : List ℕ) → KeptExtents s kept → Known s kept start → Known s kept j
+    leads : (j : ℕ) → Memᴰ j (resolve (bundle_of s) (type_names type)) → (kept : Extents) → KeptExtents s kept → Known s kept start → Known s kept j
     unfolding leads_to type
     leads j m kept g x = g.onward i j (omega (arith, f.below, tb.count, tb.placed.room)) (f.kept kept g x) (rw (placed_type tb i f.below) m)
 
@@ -179,7 +174,7 @@ module _ {s : List ℕ} {n : ℕ} {places : List ℕ} (tb : Table s n places) (c
     at_reads = (placed_at tb i f.below).reads
 
     -- nothing more is followed
-    stay : offsets_of type (extent_of (bundle_of s)) (offsets_within (bundle_of s) k) ≡ offsets_of type (extent_of (bundle_of s)) (λ m. []) → Resolved s start (get_or places i 0)
+    stay : offsets_of type (extent_of (bundle_of s)) (offsets_within (bundle_of s) (n - done)) ≡ offsets_of type (extent_of (bundle_of s)) (λ m. []) → Resolved s start (get_or places i 0)
     unfolding type
     stay e = record { reads = at_reads; offsets = here ∙ e; extent = is_part; kept = λ kept g x j m. leads j m kept g x }
 
@@ -205,21 +200,21 @@ module _ {s : List ℕ} {n : ℕ} {places : List ℕ} (tb : Table s n places) (c
         unfolding x
         is = q ∙ ap (definition_of (bundle_of s)) p
 
-        pub following_none : 0 < k → n ≤ j → Resolved s start (get_or places i 0)
+        pub following_none : done < n → count (bundle_of s) ≤ j → Resolved s start (get_or places i 0)
         unfolding offsets_within offsets_in x
-        following_none l h = stay (rw is_ref (go k l))
+        following_none l h = stay (rw is_ref (go (n - done) (omega arith)))
           where
             go : (k : ℕ) → 0 < k → offsets_within (bundle_of s) k x ≡ []
             go zero l = absurd (omega arith)
-            go (suc k) l = rw (found_none tb j x is h)
+            go (suc k) l = rw (found_none tb j x is (omega (arith, tb.count)))
 
-        pub following_next : 0 < k → j < n → Following s n start j (k - 1)
+        pub following_next : done < n → j < count (bundle_of s) → Following s n start j (done + 1)
         unfolding offsets_within find_type definition_extent x
         following_next l h = record {
-          below = h;
-          offsets = here ∙ rw is_ref (go k l);
+          below = omega (arith, tb.count);
+          offsets = let z : n - (done + 1) ≡ n - done - 1 = omega arith in rw z (here ∙ rw is_ref (go (n - done) (omega arith)));
           extent = is_part ∙ rw is_ref (extent_equation (bundle_of s) c x ∙ ap (λ i. measured (lookup.type_at (bundle_of s) i) (extent_of (bundle_of s))) (sym is));
-          kept = λ kept g y. leads j (rw (is_ref, lead_one s x [] is (omega (arith, tb.count))) (Memᴰ.head refl)) kept g y;
+          kept = λ kept g y. leads j (rw (is_ref, lead_one s x [] is h) (Memᴰ.head refl)) kept g y;
         }
           where
             go : (k : ℕ) → 0 < k → offsets_within (bundle_of s) k x ≡ offsets_in (lookup.type_at (bundle_of s) j) (extent_of (bundle_of s)) (offsets_within (bundle_of s) (k - 1))
@@ -227,14 +222,14 @@ module _ {s : List ℕ} {n : ℕ} {places : List ℕ} (tb : Table s n places) (c
             go (suc k) l = let z : suc k - 1 ≡ k = omega arith in rw (z, is)
 
     -- no more may be followed
-    pub following_end : k ≡ 0 → Resolved s start (get_or places i 0)
+    pub following_end : n ≤ done → Resolved s start (get_or places i 0)
     unfolding offsets_within
-    following_end z = stay (go type)
+    following_end h = stay (go type)
       where
-        none_left : (x : ℕ) → offsets_within (bundle_of s) k x ≡ []
-        none_left x = rw z
+        none_left : (x : ℕ) → offsets_within (bundle_of s) (n - done) x ≡ []
+        none_left x = let z : n - done ≡ 0 = omega arith in rw z
 
-        go : (t : Ty) → offsets_of t (extent_of (bundle_of s)) (offsets_within (bundle_of s) k) ≡ offsets_of t (extent_of (bundle_of s)) (λ m. [])
+        go : (t : Ty) → offsets_of t (extent_of (bundle_of s)) (offsets_within (bundle_of s) (n - done)) ≡ offsets_of t (extent_of (bundle_of s)) (λ m. [])
         go (Ty.primitive x) = refl
         go (type_ref x) = none_left x
         go (struct a ms) = refl
@@ -274,89 +269,86 @@ unfolding field_offsets
 offsets_length packed none so known = refl
 offsets_length packed (more m ms) so known = ap suc (offsets_length packed ms (with_field packed so (measure_member m known)) known)
 
--- of n fields at `at`, the last `rest`, at `next`, are still to be written, at place i of the list; before it was `before`
-pub record Writing (s kept : List ℕ) (packed n at : ℕ) (before : List ℕ) (so : Extent) (next i rest : ℕ) (offsets : List ℕ) : Type 0 where
-  pub joining : Joining s kept 23 0x50 packed n at so next rest
-  pub counted : i + rest ≡ n
+-- of n fields at `at`, those behind the first i, at `next`, are still to be written, at place i of the list; before it was `before`
+pub record Writing (s : List ℕ) (kept : Extents) (packed n at : ℕ) (before : List ℕ) (so : Result Extent Refusal) (next i : ℕ) (offsets : List ℕ) : Type 0 where
+  pub joining : Joining s kept 23 0x50 packed n at so next i
   pub long : n ≤ length before
   pub size : length offsets ≡ length before
-  pub done : take i offsets ++ field_offsets packed (members_at 23 0x50 rest s next) (extent_meant so) (known s kept) ≡ field_offsets packed (members_at 23 0x50 n s at) (sized 0 1) (known s kept)
+  pub done : take i offsets ++ field_offsets packed (members_at 23 0x50 (n - i) s next) (extent_meant so) (known s kept) ≡ field_offsets packed (members_at 23 0x50 n s at) (sized 0 1) (known s kept)
   pub others : drop n offsets ≡ drop n before
   pub end : HasEnd (members_of s kept 0x50 packed (members_at 23 0x50 n s at) (sized 0 1))
 
-pub writing_start : {s kept : List ℕ} {packed n at : ℕ} (before : List ℕ) → Joining s kept 23 0x50 packed n at (Part 0 1) at n → n ≤ length before
-    → HasEnd (members_of s kept 0x50 packed (members_at 23 0x50 n s at) (sized 0 1)) → Writing s kept packed n at before (Part 0 1) at 0 n before
+pub writing_start : {s : List ℕ} {kept : Extents} {packed n at : ℕ} (before : List ℕ) → Reads (read_members (read_ty 23) 0x50 n s at) → n ≤ length before
+    → HasEnd (members_of s kept 0x50 packed (members_at 23 0x50 n s at) (sized 0 1)) → Writing s kept packed n at before (Ok (record { size = 0; alignment = 1 })) at 0 before
 unfolding extent_meant
-writing_start before j h e = record { joining = j; counted = omega arith; long = h; size = refl; done = refl; others = refl; end = e }
+writing_start {n = n} before r h e =
+    let z : n - 0 ≡ n = omega arith in
+    record { joining = joining_start r; long = h; size = refl; done = rw z refl; others = refl; end = e }
 
-module _ {s kept : List ℕ} {packed n at : ℕ} {before : List ℕ} {so : Extent} {next i rest : ℕ} {offsets : List ℕ} (w : Writing s kept packed n at before so next i rest offsets) where
-  pub writing_end : rest ≡ 0 → offsets ≡ field_offsets packed (members_at 23 0x50 n s at) (sized 0 1) (known s kept) ++ drop n before
+module _ {s : List ℕ} {kept : Extents} {packed n at : ℕ} {before : List ℕ} {so : Result Extent Refusal} {next i : ℕ} {offsets : List ℕ} (w : Writing s kept packed n at before so next i offsets) where
+  pub writing_end : n ≡ i → offsets ≡ field_offsets packed (members_at 23 0x50 n s at) (sized 0 1) (known s kept) ++ drop n before
   unfolding field_offsets
-  writing_end e =
-      let z : i ≡ n = omega (arith, w.counted) in
+  writing_end z =
+      let e : n - i ≡ 0 = omega arith in
       let p : take n offsets ++ [] ≡ field_offsets packed (members_at 23 0x50 n s at) (sized 0 1) (known s kept) =
-      subst (λ x. take x offsets ++ [] ≡ field_offsets packed (members_at 23 0x50 n s at) (sized 0 1) (known s kept)) z
-      (ap (λ ms. take i offsets ++ field_offsets packed ms (extent_meant so) (known s kept)) (sym (members_none 23 0x50 s rest next e)) ∙ w.done) in
+      subst (λ x. take x offsets ++ [] ≡ field_offsets packed (members_at 23 0x50 n s at) (sized 0 1) (known s kept)) (sym z)
+      (ap (λ ms. take i offsets ++ field_offsets packed ms (extent_meant so) (known s kept)) (sym (members_none 23 0x50 s (n - i) next e)) ∙ w.done) in
       sym (take-append-drop n offsets) ∙ ap (λ xs. xs ++ drop n offsets) (sym (append-nil (take n offsets)) ∙ p)
       ∙ ap (λ xs. field_offsets packed (members_at 23 0x50 n s at) (sized 0 1) (known s kept) ++ xs) w.others
 
   -- the type of the next field stands at b
-  module _ (h : 0 < rest) (b : ℕ) (e : Next b ≡ step_of (member_head 0x50 s next)) (r : Measured)
-      (g : IsRead largest (part_of s kept (type_at 23 s b)) (step_of (read_ty 23 s b)) r) (part : Extent) (p : part ≡ r.extent) (v : ℕ) (q : v ≡ field_offset packed (extent_meant so) (extent_meant part)) where
-    part_is : extent_meant part ≡ part_of s kept (type_at 23 s b)
-    part_is = ap extent_meant p ∙ g.is
+  module _ (h : i < n) (b : ℕ) (e : Ok b ≡ step_of (member_head 0x50 s next)) {r : Measured}
+      (g : IsRead largest (part_of s kept (type_at 23 s b)) (step_of (read_ty 23 s b)) r) {v : ℕ} (q : v ≡ field_offset packed (extent_meant so) (extent_meant r.extent)) where
+    some : 0 < n - i
+    some = omega arith
 
-    fields_split : field_offsets packed (members_at 23 0x50 rest s next) (extent_meant so) (known s kept) ≡ v ∷ field_offsets packed (members_at 23 0x50 (rest - 1) s r.end) (with_field packed (extent_meant so) (extent_meant part)) (known s kept)
+    fields_split : field_offsets packed (members_at 23 0x50 (n - i) s next) (extent_meant so) (known s kept) ≡ v ∷ field_offsets packed (members_at 23 0x50 (n - i - 1) s r.end) (with_field packed (extent_meant so) (extent_meant r.extent)) (known s kept)
     unfolding field_offsets part_of
-    fields_split = rw (members_split 23 0x50 s rest next h w.joining.reads b e r.end g.ended, q, part_is)
+    fields_split = rw (members_split 23 0x50 s (n - i) next some w.joining.reads b e r.end g.ended, q, g.is)
 
     pub writing_most : v ≤ largest
     unfolding members_of join_of part_of
     writing_most =
-        let t : members_of s kept 0x50 packed (members_at 23 0x50 rest s next) (extent_meant so) ≡ members_of s kept 0x50 packed (members_at 23 0x50 (rest - 1) s r.end) (with_field packed (extent_meant so) (extent_meant part)) =
-        rw (members_split 23 0x50 s rest next h w.joining.reads b e r.end g.ended, part_is) in
-        let z : field_offset packed (extent_meant so) (extent_meant part) ≤ largest =
-        offset_most packed (members_at 23 0x50 (rest - 1) s r.end) (extent_meant so) (extent_meant part) (known s kept) (w.end.0, (w.end.1.0, sym t ∙ w.joining.join ∙ w.end.1.1)) in
+        let t : members_of s kept 0x50 packed (members_at 23 0x50 (n - i) s next) (extent_meant so) ≡ members_of s kept 0x50 packed (members_at 23 0x50 (n - i - 1) s r.end) (with_field packed (extent_meant so) (extent_meant r.extent)) =
+        rw (members_split 23 0x50 s (n - i) next some w.joining.reads b e r.end g.ended, g.is) in
+        let z : field_offset packed (extent_meant so) (extent_meant r.extent) ≤ largest =
+        offset_most packed (members_at 23 0x50 (n - i - 1) s r.end) (extent_meant so) (extent_meant r.extent) (known s kept) (w.end.0, (w.end.1.0, sym t ∙ w.joining.join ∙ w.end.1.1)) in
         subst (λ x. x ≤ largest) (sym q) z
 
-    pub writing_next : (so' : Extent) → (extent_meant so' ≡ with_field packed (extent_meant so) (extent_meant part)) × Open so'
-        → Writing s kept packed n at before so' r.end (i + 1) (rest - 1) (set offsets i v)
+    pub writing_next : {so' : Result Extent Refusal} → (extent_meant so' ≡ with_field packed (extent_meant so) (extent_meant r.extent)) × Open so'
+        → Writing s kept packed n at before so' r.end (i + 1) (set offsets i v)
     unfolding join_of
-    writing_next so' j = record {
-      joining = joining_next w.joining h b e r so' part g p (j.0 ∙ as_join, j.1);
-      counted = omega (arith, w.counted);
+    writing_next {so'} j = record {
+      joining = joining_next w.joining h b e g (j.0 ∙ as_join, j.1);
       long = w.long;
       size = length-set offsets i v ∙ w.size;
       done =
-          ap (λ k. take k (set offsets i v) ++ field_offsets packed (members_at 23 0x50 (rest - 1) s r.end) (extent_meant so') (known s kept)) (add-one i)
-          ∙ ap (λ xs. xs ++ field_offsets packed (members_at 23 0x50 (rest - 1) s r.end) (extent_meant so') (known s kept)) (take-suc-set offsets i v (omega (arith, w.counted, w.long, w.size)))
-          ∙ append_assoc (take i offsets) (v ∷ []) (field_offsets packed (members_at 23 0x50 (rest - 1) s r.end) (extent_meant so') (known s kept))
-          ∙ ap (λ x. take i offsets ++ (v ∷ field_offsets packed (members_at 23 0x50 (rest - 1) s r.end) x (known s kept))) j.0
+          let z : n - (i + 1) ≡ n - i - 1 = omega arith in
+          rw z (
+          ap (λ k. take k (set offsets i v) ++ field_offsets packed (members_at 23 0x50 (n - i - 1) s r.end) (extent_meant so') (known s kept)) (add-one i)
+          ∙ ap (λ xs. xs ++ field_offsets packed (members_at 23 0x50 (n - i - 1) s r.end) (extent_meant so') (known s kept)) (take-suc-set offsets i v (omega (arith, w.long, w.size)))
+          ∙ append_assoc (take i offsets) (v ∷ []) (field_offsets packed (members_at 23 0x50 (n - i - 1) s r.end) (extent_meant so') (known s kept))
+          ∙ ap (λ x. take i offsets ++ (v ∷ field_offsets packed (members_at 23 0x50 (n - i - 1) s r.end) x (known s kept))) j.0
           ∙ ap (λ xs. take i offsets ++ xs) (sym fields_split)
-          ∙ w.done;
-      others = drop-set-lt n offsets i v (omega (arith, w.counted)) ∙ w.others;
+          ∙ w.done
+          );
+      others = drop-set-lt n offsets i v h ∙ w.others;
       end = w.end;
     }
       where
-        as_join : with_field packed (extent_meant so) (extent_meant part) ≡ join_of 0x50 packed (extent_meant so) (extent_meant part)
+        as_join : with_field packed (extent_meant so) (extent_meant r.extent) ≡ join_of 0x50 packed (extent_meant so) (extent_meant r.extent)
         as_join = refl
 
 -- The answers.
 
-pub fields_of_lem : (s : List ℕ) (p : ℕ) (r : Fields) {packed n m : ℕ} → FieldsAre s p r → r ≡ Of packed n m → FieldsFrom s p packed n m
-fields_of_lem s p r f e = subst (λ x. FieldsAre s p x) e f
-
-pub fields_none : (s : List ℕ) (p : ℕ) (r : Fields) → FieldsAre s p r → r ≡ Nothing → (known : ℕ → meaning.Extent) → offsets_of (type_at 24 s p) known (λ n. []) ≡ []
-fields_none s p r f e = subst (λ x. FieldsAre s p x) e f
-
 module _ {s : List ℕ} {i at : ℕ} (d : Resolved s i at) (size a : ℕ) (before : List ℕ) where
-  pub place_none : ((known : ℕ → meaning.Extent) → offsets_of (type_at 24 s at) known (λ n. []) ≡ []) → Placing s i size a before before (Sized size a 0)
+  pub place_none : ((known : ℕ → meaning.Extent) → offsets_of (type_at 24 s at) known (λ n. []) ≡ []) → Placing s i size a before before (Ok (record { size = size; alignment = a; offsets = 0 }))
   unfolding answer_meant answer_of places_after
   place_none e =
       let z : definition_offsets (bundle_of s) i ≡ [] = d.offsets ∙ e _ in
       record { call = rw z (record { answer = rw (le-leb 0 (length before) (omega arith)); places = rw (le-leb 0 (length before) (omega arith)) }); extents = refl }
 
-  module _ {packed n m : ℕ} (f : FieldsFrom s at packed n m) {total : ℕ} {places : List ℕ} (tb : Table s total places) (c : circles (bundle_of s) ≡ false) {kept : List ℕ} (g : KeptExtents s kept) (k : Known s kept i) where
+  module _ {packed n m : ℕ} (f : FieldsFrom s at packed n m) {total : ℕ} {places : List ℕ} (tb : Table s total places) (c : circles (bundle_of s) ≡ false) {kept : Extents} (g : KeptExtents s kept) (k : Known s kept i) where
     abbrev xs : List ℕ
     xs = field_offsets packed (members_at 23 0x50 n s m) (sized 0 1) (known s kept)
 
@@ -373,40 +365,38 @@ module _ {s : List ℕ} {i at : ℕ} (d : Resolved s i at) (size a : ℕ) (befor
     unfolding members_of join_of
     place_end e = f.end (known s kept) size a (measure_local (extent_of (bundle_of s)) (known s kept) (type_at 24 s at) agrees ∙ sym d.extent ∙ e)
 
-    pub place_narrow : length before < n → Placing s i size a before before (Refused 9)
+    pub place_narrow : length before < n → Placing s i size a before before (Err NoRoom)
     unfolding answer_meant answer_of places_after
     place_narrow h = record { call = rw is_xs (record { answer = rw (as_many, lt-leb n (length before) h); places = rw (as_many, lt-leb n (length before) h) }); extents = tt }
 
-    pub place_written : n ≤ length before → (after : List ℕ) → after ≡ xs ++ drop n before → Placing s i size a before after (Sized size a n)
+    pub place_written : n ≤ length before → (after : List ℕ) → after ≡ xs ++ drop n before → Placing s i size a before after (Ok (record { size = size; alignment = a; offsets = n }))
     unfolding answer_meant answer_of places_after
     place_written h after e = record { call = rw is_xs (record { answer = rw (as_many, le-leb n (length before) h); places = rw (as_many, le-leb n (length before) h) e }); extents = refl }
 
 -- definition i of an opened bundle
 module _ {s : List ℕ} {n : ℕ} {places : List ℕ} (tb : Table s n places) (i : ℕ) (before : List ℕ) where
-  pub answered_none : n ≤ i → Answered s i before before (Refused 11)
+  pub answered_none : n ≤ i → Answered s i before before (Err Varies)
   unfolding definition_extent measured answer_meant answer_of places_after
   answered_none h =
       let z : lookup.type_at (bundle_of s) i ≡ nothing = no_definition (bundle_of s) i (omega (arith, tb.count)) in
       record { call = rw z (record { answer = refl; places = refl }); extents = tt }
 
-  pub answered_unsized : (k : ℕ) (e : Extent) → extent_meant e ≡ definition_extent (bundle_of s) i → e ≡ Unsized k → Answered s i before before (Refused k)
-  unfolding extent_meant answer_meant answer_of places_after
-  answered_unsized k e p q =
-      let z : definition_extent (bundle_of s) i ≡ unsized k = sym p ∙ ap extent_meant q in
-      record { call = rw z (record { answer = refl; places = refl }); extents = tt }
+pub answered_unsized : (s : List ℕ) (i : ℕ) (before : List ℕ) (r : Refusal) → extent_meant (Err r) ≡ definition_extent (bundle_of s) i → Answered s i before before (Err r)
+unfolding extent_meant answer_meant answer_of places_after
+answered_unsized s i before r p = record { call = rw (← p) (record { answer = refl; places = refl }); extents = tt }
 
-pub answered_sized : {s : List ℕ} {i size a : ℕ} {before after : List ℕ} {r : Fixed} → definition_extent (bundle_of s) i ≡ sized size a → Placing s i size a before after r → Answered s i before after r
+pub sized_is : (s : List ℕ) (i : ℕ) (e : Extent) → extent_meant (Ok e) ≡ definition_extent (bundle_of s) i → definition_extent (bundle_of s) i ≡ sized e.size e.alignment
+unfolding extent_meant
+sized_is s i e p = sym p
+
+pub answered_sized : {s : List ℕ} {i size a : ℕ} {before after : List ℕ} {r : Result Placement Refusal} → definition_extent (bundle_of s) i ≡ sized size a → Placing s i size a before after r → Answered s i before after r
 answered_sized z p = record { call = rw z p.call; extents = rw z p.extents }
 
-pub sized_is : (s : List ℕ) (i : ℕ) {size a : ℕ} {e : Extent} → extent_meant e ≡ definition_extent (bundle_of s) i → e ≡ Part size a → definition_extent (bundle_of s) i ≡ sized size a
-unfolding extent_meant
-sized_is s i p q = sym p ∙ ap extent_meant q
-
 -- the whole call
-pub opened_call : {s : List ℕ} {i : ℕ} {l : Layout} {places before after : List ℕ} {r : Fixed} → LayoutOf s l places × (circles (bundle_of s) ≡ false) → Answered s i before after r → FixedCall i s before after r
+pub opened_call : {s : List ℕ} {i : ℕ} {l : Layout} {places before after : List ℕ} {r : Result Placement Refusal} → LayoutOf s l places × (circles (bundle_of s) ≡ false) → Answered s i before after r → FixedCall i s before after r
 unfolding placing sizing on_bundle due_of
 opened_call o w = record { call = rw (o.0.read, o.1) w.call; extents = rw (o.0.read, o.1) w.extents }
 
-pub refused_call : (i : ℕ) (s before : List ℕ) (k : ℕ) → ((f : Bundle → Outcome) → on_bundle f s ≡ refusal k) → FixedCall i s before before (Refused k)
+pub refused_call : (i : ℕ) (s before : List ℕ) (r : Refusal) → ((f : Bundle → Outcome) → on_bundle f s ≡ refusal (number r)) → FixedCall i s before before (Err r)
 unfolding placing answer_meant answer_of places_after
-refused_call i s before k e = record { call = rw (e (λ b. given (definition_extent b i) (λ size a. definition_offsets b i))) (record { answer = refl; places = refl }); extents = tt }
+refused_call i s before r e = record { call = rw (e (λ b. given (definition_extent b i) (λ size a. definition_offsets b i))) (record { answer = refl; places = refl }); extents = tt }

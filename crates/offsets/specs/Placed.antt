@@ -1,5 +1,5 @@
 -- What a call for a definition's size, alignment and offsets answers, and what its steps find.
-use Rattle.std.specs.Prelude.{ℕ, ◌<◌, ◌≡◌}
+use Rattle.std.specs.Prelude.{ℕ, ◌<◌, ◌≡◌, Option, Some, None, Result, Ok, Err}
 use mathlib.Core.List.{List, [], ◌∷◌, Memᴰ}
 use Rattle.meaning.specs.Calls as calls
 use Rattle.meaning.specs.Calls.{Outcome, result, Call}
@@ -10,23 +10,24 @@ use Rattle.bundle.specs.Definitions.{type_at, members_at, bundle_of}
 use Rattle.fixed_meaning.specs.Extent.{Extent, sized, with_field}
 use Rattle.fixed_meaning.specs.Fixed.{measure, measure_all, extent_of, field_offsets, offsets_of, definition_extent, definition_offsets, given, sizing, placing}
 use Rattle.fixed_definitions.specs.Keeping.{Known, KeptExtents}
-use Rattle.offsets.specs.declared.Fixed.{Fixed}
-use Rattle.offsets.specs.declared.Fixed.TheVariants.{Sized, Refused}
-use Rattle.offsets.specs.declared.Fields.{Fields}
-use Rattle.offsets.specs.declared.Fields.TheVariants.{Of, Nothing}
+use Rattle.fixed.specs.Kept as keep
+use Rattle.offsets.specs.declared.Placement.{Placement}
+use Rattle.offsets.specs.declared.FieldList.{FieldList}
+use Rattle.refusal.specs.declared.Refusal.{Refusal}
+use Rattle.refusal.specs.Numbers.{number}
 
 -- the answer as that of a call: the length of the list, or the number of a refusal
-unfoldable pub answer_meant : Fixed → calls.Answer
-answer_meant (Sized size alignment count) = calls.accepted count
-answer_meant (Refused k) = calls.refused_with k
+unfoldable pub answer_meant : Result Placement Refusal → calls.Answer
+answer_meant (Ok p) = calls.accepted p.offsets
+answer_meant (Err r) = calls.refused_with (number r)
 
 -- where there is one, size and alignment are what is due
-abbrev pub Extents : Outcome → Fixed → Type 0
-Extents o (Sized size alignment count) = o ≡ result (size ∷ alignment ∷ [])
-Extents o (Refused k) = Unit {0}
+abbrev pub Extents : Outcome → Result Placement Refusal → Type 0
+Extents o (Ok p) = o ≡ result (p.size ∷ p.alignment ∷ [])
+Extents o (Err r) = Unit {0}
 
 -- the answer to a call for definition i with the bytes s: size, alignment and list length, or a refusal; and every place of the list
-pub record FixedCall (i : ℕ) (s before after : List ℕ) (r : Fixed) : Type 0 where
+pub record FixedCall (i : ℕ) (s before after : List ℕ) (r : Result Placement Refusal) : Type 0 where
   pub call : Call (placing i s) before after (answer_meant r)
   pub extents : Extents (sizing i s) r
 
@@ -39,7 +40,7 @@ pub record Resolved (s : List ℕ) (i p : ℕ) : Type 0 where
   pub reads : Reads (read_ty 24 s p)
   pub offsets : definition_offsets (bundle_of s) i ≡ offsets_of (type_at 24 s p) (extent_of (bundle_of s)) (λ n. [])
   pub extent : definition_extent (bundle_of s) i ≡ measure (type_at 24 s p) (extent_of (bundle_of s))
-  pub kept : (kept : List ℕ) → KeptExtents s kept → Known s kept i → (j : ℕ) → Memᴰ j (resolve (bundle_of s) (type_names (type_at 24 s p))) → Known s kept j
+  pub kept : (kept : keep.Extents) → KeptExtents s kept → Known s kept i → (j : ℕ) → Memᴰ j (resolve (bundle_of s) (type_names (type_at 24 s p))) → Known s kept j
 
 -- the type at p is a struct, with n fields from m on
 pub record FieldsFrom (s : List ℕ) (p packed n m : ℕ) : Type 0 where
@@ -49,16 +50,16 @@ pub record FieldsFrom (s : List ℕ) (p packed n m : ℕ) : Type 0 where
   pub end : (known : ℕ → Extent) (size a : ℕ) → measure (type_at 24 s p) known ≡ sized size a → HasEnd (measure_all (with_field packed) (members_at 23 0x50 n s m) (sized 0 1) known)
 
 -- the fields of the type at p, where it is a struct
-abbrev pub FieldsAre : List ℕ → ℕ → Fields → Type 0
-FieldsAre s p (Of packed n m) = FieldsFrom s p packed n m
-FieldsAre s p Nothing = (known : ℕ → Extent) → offsets_of (type_at 24 s p) known (λ n. []) ≡ []
+abbrev pub FieldsAre : List ℕ → ℕ → Option FieldList → Type 0
+FieldsAre s p (Some f) = FieldsFrom s p f.packed f.count f.at
+FieldsAre s p None = (known : ℕ → Extent) → offsets_of (type_at 24 s p) known (λ n. []) ≡ []
 
 -- the answer for definition i of a bundle that was opened, and every place of the list
-pub record Answered (s : List ℕ) (i : ℕ) (before after : List ℕ) (r : Fixed) : Type 0 where
+pub record Answered (s : List ℕ) (i : ℕ) (before after : List ℕ) (r : Result Placement Refusal) : Type 0 where
   pub call : Call (given (definition_extent (bundle_of s) i) (λ size a. definition_offsets (bundle_of s) i)) before after (answer_meant r)
   pub extents : Extents (given (definition_extent (bundle_of s) i) (λ size a. size ∷ a ∷ [])) r
 
 -- the same, where its size and alignment are known
-pub record Placing (s : List ℕ) (i size alignment : ℕ) (before after : List ℕ) (r : Fixed) : Type 0 where
+pub record Placing (s : List ℕ) (i size alignment : ℕ) (before after : List ℕ) (r : Result Placement Refusal) : Type 0 where
   pub call : Call (result (definition_offsets (bundle_of s) i)) before after (answer_meant r)
   pub extents : Extents (result (size ∷ alignment ∷ [])) r

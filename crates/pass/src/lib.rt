@@ -48,8 +48,8 @@ fn validate_type(
     s: &[u8],
     places: &[u16],
     layout: Layout,
-    kept: &mut [u8; bundle::DEFINITIONS],
-    nested: &mut [u8; bundle::DEFINITIONS],
+    kept: &mut [Option<bool>; bundle::DEFINITIONS],
+    nested: &mut [Option<bool>; bundle::DEFINITIONS],
     i: usize,
     edges: &[u16],
     work: &mut [u16],
@@ -86,8 +86,8 @@ pub fn validate_layout_constraints(
     s: &[u8],
     places: &[u16],
     layout: Layout,
-    kept: &mut [u8; bundle::DEFINITIONS],
-    nested: &mut [u8; bundle::DEFINITIONS],
+    kept: &mut [Option<bool>; bundle::DEFINITIONS],
+    nested: &mut [Option<bool>; bundle::DEFINITIONS],
     edges: &[u16],
     work: &mut [u16],
     out: &mut [u8],
@@ -99,13 +99,11 @@ pub fn validate_layout_constraints(
     ensures { Wrote (violations (bundle_of s.now)) out.old position out.new result × Kept s.now false kept.new × Kept s.now true nested.new }
 {
     let count = layout.definitions;
-    let mut i = 0;
     let mut reached = position;
-    while i < count {
+    for i in 0..count {
         reached = validate_type(
             s, places, layout, kept, nested, i, edges, work, out, reached,
         );
-        i += 1;
     }
     reached
 }

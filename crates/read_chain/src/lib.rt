@@ -7,17 +7,13 @@ ghost use Rattle.chain.specs.Found.{Answers};
 ghost use Rattle.chain.specs.Index.{names_in, name_in, named, Indexed};
 ghost use Rattle.search.specs.Work.{far_in, hop_in, list_in, along, Settled, Hopped, Below, Sought, Lent, IfWanted};
 
-use chain::Found;
-
 // Says where the chain of each number goes on: along the first edge that leads to a number one edge nearer.
 fn set_hops(edges: &[u16], count: usize, work: &mut [u16])
     requires indexed { Indexed count edges.now × (7 * count + 7 ≤ length work.old) }
     requires by_index { (x : ℕ) → x < names_in edges.now → far_in work.old x ≤ 2048 }
     ensures { Hopped count edges.now work.old 0 work.new }
 {
-    let mut e = count;
-    while e != 0 {
-        e -= 1;
+    for e in (0..count).rev() {
         let from = edges[3 * e + 1] as usize;
         let to = edges[3 * e + 2] as usize;
         if work[3 * from + 1] == work[3 * to + 1] + 1 {
@@ -46,28 +42,32 @@ fn fill(edges: &[u16], count: usize, x: usize, n: usize, work: &mut [u16])
 {
     let names = 5 * count + 1 + chain::BUCKETS;
     let mut y = x;
-    let mut i = 0;
-    while i < n {
+    for i in 0..n {
         work[6 * count + 3 + i] = edges[names + 2 * y];
         y = work[3 * y + 3] as usize;
-        i += 1;
     }
 }
 
 // The chain from the number `x`, for which the search is settled, into the list if it is wanted there.
-fn chain_from(edges: &[u16], count: usize, x: usize, wanted: bool, work: &mut [u16]) -> Found
+fn chain_from(
+    edges: &[u16],
+    count: usize,
+    x: usize,
+    wanted: bool,
+    work: &mut [u16],
+) -> Option<usize>
     requires { Indexed count edges.now × ((to : ℕ) × Lent count edges.now to work.old) × (get_or work.old 0 0 ≡ 0 → ⊥) × (x < names_in edges.now) × Settled count edges.now x work.old }
     ensures { (to : ℕ) → Lent count edges.now to work.old → IfWanted wanted (list_in count work.new) (λ list. Answers (chain_of (named count edges.now) (name_in count edges.now x) to) list result) × Lent count edges.now to work.new }
 {
     let n = work[3 * x + 1] as usize;
     if n == 0 {
-        return Found::Missing;
+        return None;
     }
     if wanted {
         with_hops(edges, count, work);
         fill(edges, count, x, n, work);
     }
-    Found::Chain(n)
+    Some(n)
 }
 
 // Makes the search to the name `to` as far as the chain from the number `x` asks for: until `x` is marked where only the name itself is, and
@@ -94,6 +94,7 @@ fn ready(edges: &[u16], count: usize, x: usize, to: u16, work: &mut [u16])
 
 // The chain from `from` to `to` over `count` prepared edges, into the list if it is wanted there. All calls with the same slice `work` are
 // to one name, and each goes on with the search of those before it; place 0 of the slice is 0 before the first, and what else it holds is free.
+// Whether it is wanted is known when the call runs: a function for each would put one more `if` in front of each call and each contract.
 pub fn find(
     edges: &[u16],
     count: usize,
@@ -101,19 +102,16 @@ pub fn find(
     to: u16,
     wanted: bool,
     work: &mut [u16],
-) -> Found
+) -> Option<usize>
     requires { Indexed count edges.now × Lent count edges.now to work.old }
     ensures { IfWanted wanted (list_in count work.new) (λ list. Answers (chain_of (named count edges.now) from to) list result) × Lent count edges.now to work.new }
 {
     if from == to {
         work[6 * count + 3] = from;
-        return Found::Chain(1);
+        return Some(1);
     }
     let m = edges[0] as usize;
-    let x = table::place_of(edges, 5 * count + 1, chain::BUCKETS, m, from);
-    if m <= x {
-        return Found::Missing;
-    }
+    let x = table::place_of::<{ chain::BUCKETS }>(edges, 5 * count + 1, m, from)?;
     ready(edges, count, x, to, work);
     chain_from(edges, count, x, wanted, work)
 }

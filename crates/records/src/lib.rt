@@ -7,13 +7,15 @@ ghost use Rattle.meaning.specs.ReadBundle.{opening, read_definition, read_header
 ghost use Rattle.bundle.specs.View.{record_before, record_names, record_behind, form_meant, step_of};
 ghost use Rattle.records.specs.Header.{counts_of};
 
-use bundle::{Form, RecordForm, Step};
+use bundle::{Form, RecordForm};
+use refusal::Refusal;
 
-// The numbers of definitions and edges and the end of the header, or the number of the fault in the header.
+// The numbers of definitions and edges that the header has, and where it ends.
 #[derive(Clone, Copy)]
-pub enum Counts {
-    Each(usize, usize, usize),
-    Bad(u8),
+pub struct Header {
+    pub definitions: usize,
+    pub edges: usize,
+    pub end: usize,
 }
 
 // The bytes of the body of a header, definition or edge.
@@ -28,56 +30,52 @@ fn record_length(form: RecordForm) -> usize
 }
 
 // The body of the header, definition or edge at `at`, whose kind must be `kind`, of this form, and whose body must be whole.
-pub fn opening_at(s: &[u8], at: usize, kind: u8, form: Form) -> Step
+pub fn opening_at(s: &[u8], at: usize, kind: u8, form: Form) -> Result<usize, Refusal>
     requires { form_meant form ≡ form_of kind }
     ensures { result ≡ step_of (opening kind s.now at) }
 {
     if s.len() <= at {
-        return Step::Refused(2);
+        return Err(Refusal::Short);
     }
     if s[at] != kind {
-        return Step::Refused(3);
+        return Err(Refusal::WrongKind);
     }
     let Form::OfRecord(record) = form else {
-        return Step::Refused(3);
+        return Err(Refusal::WrongKind);
     };
     let body = at + 1;
     if s.len() - body < record_length(record) {
-        return Step::Refused(2);
+        return Err(Refusal::Short);
     }
-    Step::Next(body)
+    Ok(body)
 }
 
 // The end of the definition at `at`.
-pub fn definition_at(s: &[u8], at: usize) -> Step
+#[tactic(auto, using(crate::proofs::RecordLaws::definition_there, crate::proofs::RecordLaws::definition_ends))]
+pub fn definition_at(s: &[u8], at: usize) -> Result<usize, Refusal>
     ensures { result ≡ step_of (read_definition s.now at) }
 {
-    let form = bundle::form_of(0x61);
-    let opened = opening_at(s, at, 0x61, form);
-    match opened {
-        Step::Next(body) => bundle::type_at(s, body + 2, bundle::DEPTH_LIMIT),
-        Step::Refused(k) => Step::Refused(k),
-    }
+    let body = opening_at(s, at, 0x61, bundle::form_of(0x61))?;
+    bundle::type_at(s, body + 2, bundle::DEPTH_LIMIT)
 }
 
 // The counts in the header.
-pub fn header_at(s: &[u8]) -> Counts
+#[tactic(auto, using(crate::proofs::RecordLaws::header_there))]
+pub fn header_at(s: &[u8]) -> Result<Header, Refusal>
     ensures { result ≡ counts_of (read_header s.now 0) }
 {
-    let form = bundle::form_of(0x60);
-    let opened = opening_at(s, 0, 0x60, form);
-    match opened {
-        Step::Next(body) => {
-            let definitions = bundle::u16_at(s, body);
-            let edges = bundle::u16_at(s, body + 2);
-            if bundle::DEFINITION_LIMIT < definitions {
-                return Counts::Bad(5);
-            }
-            if bundle::EDGE_LIMIT < edges {
-                return Counts::Bad(5);
-            }
-            Counts::Each(definitions as usize, edges as usize, body + 6)
-        }
-        Step::Refused(k) => Counts::Bad(k),
+    let body = opening_at(s, 0, 0x60, bundle::form_of(0x60))?;
+    let definitions = bundle::u16_at(s, body);
+    let edges = bundle::u16_at(s, body + 2);
+    if bundle::DEFINITION_LIMIT < definitions {
+        return Err(Refusal::TooMany);
     }
+    if bundle::EDGE_LIMIT < edges {
+        return Err(Refusal::TooMany);
+    }
+    Ok(Header {
+        definitions: usize::from(definitions),
+        edges: usize::from(edges),
+        end: body + 6,
+    })
 }

@@ -1,4 +1,8 @@
 -- What is due to a call of `renumber`, and what it answers.
+use Rattle.std.specs.Prelude.{Err, Ok}
+use Rattle.refusal.specs.declared.Refusal.{Refusal}
+use Rattle.refusal.specs.Numbers.{number}
+use Rattle.refusal.specs.declared.Refusal.TheVariants.{NoRoom}
 use Prim.Native.Nat.{ℕ, ◌≤◌, ◌<◌}
 use mathlib.Core.Bool.{false}
 use mathlib.Core.List.{List, ◌++◌}
@@ -16,7 +20,6 @@ use Rattle.meaning.specs.Due.{renumbering}
 use Rattle.meaning.specs.Calls.{Outcome, result, refusal, on_bundle, answer_of, places_after, Call, Accepted}
 use Rattle.meaning.proofs.Acceptance.{accepted_of}
 use Rattle.meaning.proofs.RenumberingLaws.{bytes_below, accepted_whole, renumbering_due}
-use Rattle.bundle.specs.declared.Answer.TheVariants.{Accepted as Gave, Refused}
 use Rattle.bundle.specs.declared.Layout.{Layout}
 use Rattle.bundle.specs.Definitions.{bundle_of}
 use Rattle.bundle.specs.Opened.{LayoutOf, answer_meant}
@@ -30,7 +33,7 @@ accepted_small a = subst (λ t. length t ≤ size_limit) a.encoded a.within.size
 
 -- the answers
 
-pub answers_refused : (s out : List ℕ) (k : ℕ) → ((f : Bundle → Outcome) → on_bundle f s ≡ refusal k) → Call (renumbering s) out out (answer_meant (Refused k))
+pub answers_refused : (s out : List ℕ) (k : Refusal) → ((f : Bundle → Outcome) → on_bundle f s ≡ refusal (number k)) → Call (renumbering s) out out (answer_meant (Err k))
 unfolding renumbering answer_meant answer_of places_after
 answers_refused s out k e = rw (e (λ b. result (renumber_bytes body (bundle_bytes b)))) (record { answer = refl; places = refl })
 
@@ -38,7 +41,7 @@ module _ {s : List ℕ} (bound : Bytes s) (a : Accepted s) where
   as_long : length (renumber_bytes body s) ≡ length s
   as_long = length_renumbered body s (bytes_below s bound) (accepted_whole a)
 
-  pub answers_narrow : (out : List ℕ) → length out < length s → Call (renumbering s) out out (answer_meant (Refused 9))
+  pub answers_narrow : (out : List ℕ) → length out < length s → Call (renumbering s) out out (answer_meant (Err NoRoom))
   unfolding answer_meant answer_of places_after
   answers_narrow out h = record {
     answer = rw (renumbering_due a, as_long, lt-leb (length s) (length out) h);
@@ -46,7 +49,7 @@ module _ {s : List ℕ} (bound : Bytes s) (a : Accepted s) where
   }
 
   pub answers_renumbered : (out out' : List ℕ) → length s ≤ length out → out' ≡ renumber_bytes body s ++ drop (length s) out
-      → Call (renumbering s) out out' (answer_meant (Gave (length s)))
+      → Call (renumbering s) out out' (answer_meant (Ok (length s)))
   unfolding answer_meant answer_of places_after
   answers_renumbered out out' h e = record {
     answer = rw (renumbering_due a, as_long, le-leb (length s) (length out) h);

@@ -13,7 +13,8 @@ ghost use Rattle.bundle.specs.Definitions.{buckets, places_end};
 ghost use Rattle.bundle.specs.Opened.{answer_meant};
 ghost use Rattle.renumber.specs.Scan.{due, name_first, behind, Put};
 
-use bundle::{Answer, ExprForm, Form, Opening, RecordForm, TypeForm};
+use bundle::{ExprForm, Form, RecordForm, TypeForm};
+use refusal::Refusal;
 
 // The parts of a record's body that are still to come: bytes, then names, then bytes.
 #[derive(Clone, Copy)]
@@ -55,7 +56,7 @@ fn parts_of(form: Form) -> Parts
 fn name_due(left: Parts) -> bool
     ensures { result ≡ name_first (due left) }
 {
-    if left.0 == 0 { 0 < left.1 } else { false }
+    left.0 == 0 && 0 < left.1
 }
 
 // What is left behind the next part; where nothing was left, the body of a record of this kind.
@@ -82,9 +83,10 @@ fn put_name(s: &[u8], out: &mut [u8], table: &mut [u16], at: usize, next: usize)
     ensures { Put s.now at table.old next out.old out.new table.new result }
 {
     let name = bundle::u16_at(s, at);
-    let number = table::enter(table, 0, bundle::BUCKETS, next, name);
-    out[at] = (number % 256) as u8;
-    out[at + 1] = (number / 256) as u8;
+    let number = table::enter::<{ bundle::BUCKETS }>(table, 0, next, name);
+    let bytes = (number as u16).to_le_bytes();
+    out[at] = bytes[0];
+    out[at + 1] = bytes[1];
     if number == next { next + 1 } else { next }
 }
 
@@ -95,8 +97,8 @@ fn scan(s: &[u8], out: &mut [u8], table: &mut [u16])
     requires whole { Whole body s.now × (buckets + 2 + length s.now ≤ length table.old) }
     ensures { out.new ≡ renumber_bytes body s.now ++ drop (length s.now) out.old }
 {
-    table::empty(table, 0, bundle::BUCKETS);
-    table::enter(table, 0, bundle::BUCKETS, 0, 0);
+    table::empty::<{ bundle::BUCKETS }>(table, 0);
+    table::enter::<{ bundle::BUCKETS }>(table, 0, 0, 0);
     let mut next = 1;
     let mut left = Parts(0, 0, 0);
     let mut at = 0;
@@ -115,21 +117,16 @@ fn scan(s: &[u8], out: &mut [u8], table: &mut [u16])
 
 // Writes the bundle with its names renumbered to the first places of `out`, with a lent list of places: first for the definitions, then
 // for the names.
-fn renumber_in(bundle: &[u8], places: &mut [u16], out: &mut [u8]) -> Answer
+fn renumber_in(bundle: &[u8], places: &mut [u16], out: &mut [u8]) -> Result<usize, Refusal>
     requires { (places_end ≤ length places.old) × (length bundle.now ≤ size_limit → buckets + 2 + length bundle.now ≤ length places.old) }
     ensures { Call (renumbering bundle.now) out.old out.new (answer_meant result) }
 {
-    let opening = acceptance::open(bundle, places);
-    match opening {
-        Opening::Opened(_) => {
-            if out.len() < bundle.len() {
-                return Answer::Refused(9);
-            }
-            scan(bundle, out, places);
-            Answer::Accepted(bundle.len())
-        }
-        Opening::Refused(k) => Answer::Refused(k),
+    acceptance::open(bundle, places)?;
+    if out.len() < bundle.len() {
+        return Err(Refusal::NoRoom);
     }
+    scan(bundle, out, places);
+    Ok(bundle.len())
 }
 
 // As many places as the names of any bundle may need.
@@ -137,7 +134,7 @@ const NAME_PLACES: usize = bundle::BUCKETS + 2 + bundle::BYTE_LIMIT;
 
 // Writes the bundle with its names renumbered to the first places of `out`. A short bundle needs no more places for its names than for its
 // definitions, and is not worth the clearing of more.
-pub fn renumber(bundle: &[u8], out: &mut [u8]) -> Answer
+pub fn renumber(bundle: &[u8], out: &mut [u8]) -> Result<usize, Refusal>
     ensures { Call (renumbering bundle.now) out.old out.new (answer_meant result) }
 {
     if bundle.len() <= bundle::SHORT_BYTES {

@@ -2,151 +2,144 @@
 // with the stored answer.
 #![tactic(auto)]
 
-ghost use Rattle.std.specs.Io.{ReadsAtMost};
-
-use offsets::Fixed;
-use search_from::Listing;
 use std::io;
 use std::io::Read;
-use values::Valued;
 
-// Reads until buf is full or the input ends, and returns how many bytes it put at the start of buf.
-fn read_full<R: Read>(input: &mut R, buf: &mut [u8]) -> io::Result<usize>
-    ensures { ReadsAtMost result buf.new }
-{
-    let mut done = 0;
-    while done < buf.len() {
-        let n = input.read(&mut buf[done..])?;
-        if n == 0 {
-            break;
-        }
-        done += n;
-    }
-    Ok(done)
-}
-
-// Reads n bytes into the first places; whether all were there.
-fn read_first<R: Read>(input: &mut R, space: &mut [u8], n: usize) -> io::Result<bool> {
-    if space.len() < n {
-        return Ok(false);
-    }
-    let got = read_full(input, &mut space[..n])?;
-    Ok(got == n)
-}
-
-// Whether the report of the bundle is the answer in the first m bytes of `due`.
-fn reported(bundle: &[u8], due: &[u8], m: usize) -> bool {
+// Whether the report of the bundle is the answer.
+fn reported(bundle: &[u8], due: &[u8]) -> bool {
     let mut out = [0u8; 65536];
     let answer = report::report(bundle, &mut out);
-    stored::is_due(answer, &out, due, m)
+    stored::is_due(answer, &out, due)
 }
 
 // The same for the renumbered bundle.
-fn renumbered(bundle: &[u8], due: &[u8], m: usize) -> bool {
+fn renumbered(bundle: &[u8], due: &[u8]) -> bool {
     let mut out = [0u8; 65536];
     let answer = renumber::renumber(bundle, &mut out);
-    stored::is_due(answer, &out, due, m)
+    stored::is_due(answer, &out, due)
 }
 
 // The same for the size, alignment and offsets of a definition.
-fn measured(bundle: &[u8], definition: usize, due: &[u8], m: usize) -> bool {
+fn measured(bundle: &[u8], definition: usize, due: &[u8]) -> bool {
     let mut list = [0u32; 8192];
-    let answer = offsets::fixed_size(bundle, definition, &mut list);
-    match answer {
-        Fixed::Sized(size, alignment, count) => stored::layout_is(
-            size, alignment, &list, count, due, m,
-        ),
-        Fixed::Refused(number) => stored::is_refusal(number, due, m),
+    match offsets::fixed_size(bundle, definition, &mut list) {
+        Ok(placement) => match list.get(..placement.offsets) {
+            Some(offsets) => stored::layout_is(placement.size, placement.alignment, offsets, due),
+            None => false,
+        },
+        Err(refusal) => stored::is_refusal(refusal, due),
     }
 }
 
 // The same for the value of the size of a definition.
-fn valued(bundle: &[u8], definition: usize, due: &[u8], m: usize) -> bool {
-    let answer = size_value::size_value(bundle, definition);
-    match answer {
-        Valued::Is(value) => stored::value_is(value, due, m),
-        Valued::Refused(number) => stored::is_refusal(number, due, m),
+fn valued(bundle: &[u8], definition: usize, due: &[u8]) -> bool {
+    match size_value::size_value(bundle, definition) {
+        Ok(value) => stored::value_is(value, due),
+        Err(refusal) => stored::is_refusal(refusal, due),
     }
 }
 
-// The same for the count of followed names and the chain between two names, which stand in two bytes each before the bundle.
-fn followed(asked: &[u8], due: &[u8], m: usize) -> bool {
-    if asked.len() < 4 {
-        return false;
-    }
-    let from = bundle::u16_at(asked, 0);
-    let to = bundle::u16_at(asked, 2);
+// The same for the count of followed names and the chain between two names.
+fn followed(bundle: &[u8], from: u16, to: u16, due: &[u8]) -> bool {
     let mut list = [0u16; bundle::CHAIN_LIMIT];
-    let answer = find_chain::find_layout_dependency_chain(&asked[4..], from, to, &mut list);
-    match answer {
-        Listing::Listed(n, count) => stored::chain_is(count as u64, &list, n, due, m),
-        Listing::Refused(number) => stored::is_refusal(number, due, m),
+    match find_chain::find_layout_dependency_chain(bundle, from, to, &mut list) {
+        Ok(listed) => match list.get(..listed.names) {
+            Some(names) => stored::chain_is(listed.followed as u64, names, due),
+            None => false,
+        },
+        Err(refusal) => stored::is_refusal(refusal, due),
     }
 }
 
-// The same for a definition whose number stands in two bytes before the bundle.
-fn named(kind: u8, asked: &[u8], due: &[u8], m: usize) -> bool {
-    if asked.len() < 2 {
-        return false;
-    }
-    let definition = bundle::u16_at(asked, 0) as usize;
-    if kind == 2 {
-        return measured(&asked[2..], definition, due, m);
-    }
-    if kind == 3 {
-        return valued(&asked[2..], definition, due, m);
-    }
-    false
+// What is asked of a bundle.
+#[derive(Clone, Copy)]
+pub enum Question {
+    Report,
+    Renumber,
+    Size,
+    Value,
+    Followed,
 }
 
-// Whether the answer to what is asked in the first n bytes is the one in the first m of `due`.
-fn answered(kind: u8, space: &[u8], n: usize, due: &[u8], m: usize) -> bool {
-    if space.len() < n {
-        return false;
+// The question of this number.
+fn question_of(kind: u8) -> Option<Question> {
+    match kind {
+        0 => Some(Question::Report),
+        1 => Some(Question::Renumber),
+        2 => Some(Question::Size),
+        3 => Some(Question::Value),
+        4 => Some(Question::Followed),
+        _ => None,
     }
-    let asked = &space[..n];
-    if kind == 0 {
-        return reported(asked, due, m);
-    }
-    if kind == 1 {
-        return renumbered(asked, due, m);
-    }
-    if kind == 4 {
-        return followed(asked, due, m);
-    }
-    named(kind, asked, due, m)
+}
+
+// The number that stands in two bytes before what is behind it.
+fn split_number(bytes: &[u8]) -> Option<(u16, &[u8])> {
+    let (number, behind) = bytes.split_at_checked(2)?;
+    Some((bundle::u16_at(number, 0), behind))
+}
+
+// Whether the answer to the question is the one that is due. The number of a definition, and the names of a chain, stand before the bundle.
+fn answered(question: Question, asked: &[u8], due: &[u8]) -> Option<bool> {
+    Some(match question {
+        Question::Report => reported(asked, due),
+        Question::Renumber => renumbered(asked, due),
+        Question::Size => {
+            let (definition, bundle) = split_number(asked)?;
+            measured(bundle, usize::from(definition), due)
+        }
+        Question::Value => {
+            let (definition, bundle) = split_number(asked)?;
+            valued(bundle, usize::from(definition), due)
+        }
+        Question::Followed => {
+            let (from, behind) = split_number(asked)?;
+            let (to, bundle) = split_number(behind)?;
+            followed(bundle, from, to, due)
+        }
+    })
 }
 
 // What a case starts with: 0 for a report, 1 for a renumbering, 2 for a fixed size, 3 for a value or 4 for a count with its chain, and the
 // lengths of what is asked and of the answer.
 #[derive(Clone, Copy)]
-pub enum Head {
-    Case(u8, usize, usize),
-    End,
+pub struct Head {
+    pub question: Option<Question>,
+    pub asked: u16,
+    pub due: u16,
 }
 
-// Reads the head of a case: its kind, and the two lengths in two bytes each.
-fn read_head<R: Read>(input: &mut R) -> io::Result<Head> {
+// Reads the head of a case, if there is one more: its kind, and the two lengths in two bytes each.
+fn read_head<R: Read>(input: &mut R) -> io::Result<Option<Head>> {
     let mut head = [0u8; 5];
-    if read_full(input, &mut head)? < 5 {
-        return Ok(Head::End);
+    if input::read_full(input, &mut head)? < 5 {
+        return Ok(None);
     }
-    let asked = bundle::u16_at(&head, 1) as usize;
-    let due = bundle::u16_at(&head, 3) as usize;
-    Ok(Head::Case(head[0], asked, due))
+    Ok(Some(Head {
+        question: question_of(head[0]),
+        asked: bundle::u16_at(&head, 1),
+        due: bundle::u16_at(&head, 3),
+    }))
 }
 
-// Reads what is asked and the answer, and compares.
-fn run_case<R: Read>(input: &mut R, kind: u8, n: usize, m: usize) -> io::Result<bool> {
+// Reads bytes until the places are full; whether all were there.
+fn read_all<R: Read>(input: &mut R, places: &mut [u8]) -> io::Result<bool> {
+    Ok(input::read_full(input, places)? == places.len())
+}
+
+// Reads what is asked and the answer, and compares. A case of no known kind has another answer.
+fn run_case<R: Read>(input: &mut R, head: Head) -> io::Result<bool> {
     let mut space = [0u8; 65536];
-    let mut due = [0u8; 65536];
-    if !read_first(input, &mut space, n)? {
+    let mut answer = [0u8; 65536];
+    let asked = &mut space[..usize::from(head.asked)];
+    let due = &mut answer[..usize::from(head.due)];
+    if !read_all(input, asked)? || !read_all(input, due)? {
         return Ok(false);
     }
-    if !read_first(input, &mut due, m)? {
+    let Some(question) = head.question else {
         return Ok(false);
-    }
-    Ok(answered(kind, &space, n, &due, m))
+    };
+    Ok(answered(question, asked, due).unwrap_or(false))
 }
 
 // How many cases gave the answer due, and how many another one.
@@ -159,13 +152,13 @@ pub struct Tally {
 fn counted(tally: Tally, same: bool) -> Tally {
     if same {
         return Tally {
-            same: std::num::wrapping_add_u64(tally.same, 1),
+            same: tally.same.wrapping_add(1),
             other: tally.other,
         };
     }
     Tally {
         same: tally.same,
-        other: std::num::wrapping_add_u64(tally.other, 1),
+        other: tally.other.wrapping_add(1),
     }
 }
 
@@ -177,11 +170,10 @@ fn print(rt: &impl Print, tally: Tally) -> io::Result<()> {
 fn run_cases<R: Read>(input: &mut R) -> io::Result<Tally> {
     let mut tally = Tally { same: 0, other: 0 };
     for _ in 0..5000 {
-        let head = read_head(input)?;
-        let Head::Case(kind, n, m) = head else {
+        let Some(head) = read_head(input)? else {
             return Ok(tally);
         };
-        tally = counted(tally, run_case(input, kind, n, m)?);
+        tally = counted(tally, run_case(input, head)?);
     }
     Ok(tally)
 }

@@ -1,4 +1,7 @@
 -- What a call leaves in its places, as the program writes it.
+use Rattle.std.specs.Prelude.{Err, Ok, Result}
+use Rattle.refusal.specs.declared.Refusal.{Refusal}
+use Rattle.refusal.specs.Numbers.{number}
 use Prim.Native.Nat.{ℕ, ◌+◌, ◌^◌, ◌≤◌, ◌<◌}
 use native.Mathlib.Omega.{arith}
 use mathlib.Core.Bool.{Bool, true, false, cond}
@@ -25,23 +28,15 @@ use Rattle.meaning.specs.Due.{chain_names, chaining}
 use Rattle.meaning.proofs.CallLaws.{Fills, call_accepted, answer_fits}
 use Rattle.meaning.proofs.Chains.{chain_length}
 use Rattle.meaning.proofs.ReadWithin.{bundle_within}
-use Rattle.bundle.specs.declared.Answer as code
-use Rattle.bundle.specs.declared.Answer.TheVariants.{Accepted, Refused}
 use Rattle.bundle.specs.Opened.{answer_meant}
-use Rattle.search_from.specs.declared.Listing.{Listing}
-use Rattle.search_from.specs.declared.Listing.TheVariants as listing
-use Rattle.search_from.specs.declared.Listing.TheVariants.{Listed}
+use Rattle.search_from.specs.declared.Listed.{Listed}
 use Rattle.search_from.specs.Listing.{answer_meant as listingMeant, CountIs}
 use Rattle.find_chain.specs.ChainCall.{ChainCall}
 use Rattle.followed.specs.Followed.{following}
 use Rattle.fixed_meaning.specs.Fixed.{sizing, placing}
 use Rattle.fixed_meaning.specs.Value as meaning
-use Rattle.values.specs.declared.Valued.{Valued}
-use Rattle.values.specs.declared.Valued.TheVariants as value
 use Rattle.values.specs.Meant.{value_meant}
-use Rattle.offsets.specs.declared.Fixed.{Fixed}
-use Rattle.offsets.specs.declared.Fixed.TheVariants as fixed
-use Rattle.offsets.specs.declared.Fixed.TheVariants.{Sized}
+use Rattle.offsets.specs.declared.Placement.{Placement}
 use Rattle.offsets.specs.Placed.{answer_meant as fixedMeant, Extents, FixedCall}
 use Rattle.responses.specs.Response.{refusal_bytes, written, response_to, numbers_of, count_for, lines_to, lines_of, size_to, value_to, Holds}
 
@@ -96,52 +91,52 @@ pub line_end : {n at r : ℕ} {out out' : List ℕ} → n < 2 ^ 64 → at ≤ le
 line_end {n} small within w = omega (arith, line_size 19 n (omega arith), writes_end w within)
 
 -- the answers of the code as those of a call
-module _ {a : code.Answer} where
-  pub accepting : {n : ℕ} → a ≡ Accepted n → answer_meant a ≡ accepted n
+module _ {a : Result ℕ Refusal} where
+  pub accepting : {n : ℕ} → a ≡ Ok n → answer_meant a ≡ accepted n
   unfolding answer_meant
   accepting e = ap answer_meant e
 
-  pub refusing : {k : ℕ} → a ≡ Refused k → answer_meant a ≡ refused_with k
+  pub refusing : {e : Refusal} → a ≡ Err e → answer_meant a ≡ refused_with (number e)
   unfolding answer_meant
-  refusing e = ap answer_meant e
+  refusing p = ap answer_meant p
 
 -- a chain and its count, as they are answered
-module _ {from to : ℕ} {s before after : List ℕ} {a : Listing} (c : ChainCall from to s before after a) where
-  module _ {n k : ℕ} (e : a ≡ Listed n k) where
-    listed : listingMeant a ≡ accepted n
+module _ {from to : ℕ} {s before after : List ℕ} {a : Result Listed Refusal} (c : ChainCall from to s before after a) where
+  module _ {l : Listed} (e : a ≡ Ok l) where
+    listed : listingMeant a ≡ accepted l.names
     unfolding listingMeant
     listed = ap listingMeant e
 
-    pub chain_within : n ≤ length after
+    pub chain_within : l.names ≤ length after
     chain_within = accepted_within _ c.call listed
 
     -- and written
-    pub chains : (counted : Bool) {o₀ o₁ o₂ : List ℕ} {p r : ℕ} → Writes (lines (count_for counted (result (k ∷ [])))) o₀ 0 o₁ p → Writes (lines (take n after)) o₁ p o₂ r
+    pub chains : (counted : Bool) {o₀ o₁ o₂ : List ℕ} {p r : ℕ} → Writes (lines (count_for counted (result (l.followed ∷ [])))) o₀ 0 o₁ p → Writes (lines (take l.names after)) o₁ p o₂ r
         → Holds (lines_to (count_for counted (following from to s)) (chaining from to s)) o₂ r
     chains counted {o₂ = o₂} {r = r} w u =
         subst⁻¹ (λ o. Holds (lines_to (count_for counted o) (chaining from to s)) o₂ r) (subst (λ a. CountIs (following from to s) a) e c.count) (lists _ c.call listed _ w u)
 
 -- a definition's size, as it is answered and written
-module _ {i lent : ℕ} {s before after : List ℕ} {f : Fixed} (c : FixedCall i s before after f) (room : length before ≡ lent) where
-  module _ {size alignment n : ℕ} (e : f ≡ Sized size alignment n) where
-    sized : fixedMeant f ≡ accepted n
+module _ {i lent : ℕ} {s before after : List ℕ} {f : Result Placement Refusal} (c : FixedCall i s before after f) (room : length before ≡ lent) where
+  module _ {a : Placement} (e : f ≡ Ok a) where
+    sized : fixedMeant f ≡ accepted a.offsets
     unfolding fixedMeant
     sized = ap fixedMeant e
 
-    pub sized_within : n ≤ length after
+    pub sized_within : a.offsets ≤ length after
     sized_within = accepted_within (placing i s) c.call sized
 
-    pub sizes : {o₀ o₁ o₂ o₃ : List ℕ} {p q r : ℕ} → Writes (lines (size ∷ [])) o₀ 0 o₁ p → Writes (lines (alignment ∷ [])) o₁ p o₂ q
-        → Writes (lines (take n after)) o₂ q o₃ r → Holds (size_to (sizing i s) (placing i s) lent) o₃ r
+    pub sizes : {o₀ o₁ o₂ o₃ : List ℕ} {p q r : ℕ} → Writes (lines (a.size ∷ [])) o₀ 0 o₁ p → Writes (lines (a.alignment ∷ [])) o₁ p o₂ q
+        → Writes (lines (take a.offsets after)) o₂ q o₃ r → Holds (size_to (sizing i s) (placing i s) lent) o₃ r
     unfolding size_to
     sizes {o₃ = o₃} {r = r} w v u =
         let f = filled (placing i s) c.call sized in
-        let extent : sizing i s ≡ result (size ∷ alignment ∷ []) = subst (λ f. Extents (sizing i s) f) e c.extents in
-        let answered : answer_of (placing i s) lent ≡ accepted n = sym (ap (answer_of (placing i s)) room) ∙ sym c.call.answer ∙ sized in
-        let joined = ap (λ l. lines (size ∷ []) ++ l) (sym (lines_append (alignment ∷ []) (take n after))) ∙ sym (lines_append (size ∷ []) (alignment ∷ take n after)) in
+        let extent : sizing i s ≡ result (a.size ∷ a.alignment ∷ []) = subst (λ f. Extents (sizing i s) f) e c.extents in
+        let answered : answer_of (placing i s) lent ≡ accepted a.offsets = sym (ap (answer_of (placing i s)) room) ∙ sym c.call.answer ∙ sized in
+        let joined = ap (λ l. lines (a.size ∷ []) ++ l) (sym (lines_append (a.alignment ∷ []) (take a.offsets after))) ∙ sym (lines_append (a.size ∷ []) (a.alignment ∷ take a.offsets after)) in
         record { within = u.room; first = rw (answered, extent, f.outcome, ← f.first) ((writes_then w (writes_then v u)).places ∙ joined) }
 
-  pub size_refuses : {k r : ℕ} {out : List ℕ} → f ≡ fixed.Refused k → Holds (refusal_bytes k) out r → Holds (size_to (sizing i s) (placing i s) lent) out r
+  pub size_refuses : {k : Refusal} {r : ℕ} {out : List ℕ} → f ≡ Err k → Holds (refusal_bytes (number k)) out r → Holds (size_to (sizing i s) (placing i s) lent) out r
   unfolding size_to fixedMeant
   size_refuses {r = r} {out} e w =
       subst (λ a. Holds (lines_of a (numbers_of (sizing i s) ++ numbers_of (placing i s))) out r) (sym (ap fixedMeant e) ∙ c.call.answer ∙ ap (answer_of (placing i s)) room) w
@@ -151,12 +146,12 @@ pub value_size : (z : ℤ) → SFits w64 z → length (signed_line (to_z w64 (of
 value_size z f = rw (to_z-of_z w64 z f) (signed_size z f)
 
 -- a value, as it is answered and written
-module _ {v : Valued} {due : meaning.Value} (c : value_meant v ≡ due) where
-  pub values : {z : ℤ} {out out' : List ℕ} {r : ℕ} → v ≡ value.Is z → SFits w64 z → Writes (signed_line (to_z w64 (of_z w64 z))) out 0 out' r → Holds (value_to due) out' r
+module _ {v : Result ℤ Refusal} {due : meaning.Value} (c : value_meant v ≡ due) where
+  pub values : {z : ℤ} {out out' : List ℕ} {r : ℕ} → v ≡ Ok z → SFits w64 z → Writes (signed_line (to_z w64 (of_z w64 z))) out 0 out' r → Holds (value_to due) out' r
   unfolding value_to value_meant
   values {z} e f w = record { within = w.room; first = w.places ∙ ap signed_line (to_z-of_z w64 z f) ∙ ap value_to (sym (ap value_meant e) ∙ c) }
 
-  pub value_refuses : {k r : ℕ} {out : List ℕ} → v ≡ value.Refused k → Holds (refusal_bytes k) out r → Holds (value_to due) out r
+  pub value_refuses : {k : Refusal} {r : ℕ} {out : List ℕ} → v ≡ Err k → Holds (refusal_bytes (number k)) out r → Holds (value_to due) out r
   unfolding value_to value_meant
   value_refuses {r = r} {out} e w = subst (λ x. Holds (value_to x) out r) (sym (ap value_meant e) ∙ c) w
 
@@ -178,14 +173,14 @@ chain_fits from to s bytes names = go (read_bundle s) refl
     go (refused k) e p = let z : ◌≡◌ {A = ℕ} 0 1 = cc in absurd (omega arith)
 
 -- so a chain is refused only where the bundle is
-pub chain_refuses : {from to : ℕ} {s : List ℕ} → Bytes s → (count : List ℕ) {list list' out : List ℕ} {a : Listing} {k r : ℕ} → ChainCall from to s list list' a
-    → 1025 ≤ length list → a ≡ listing.Refused k → Holds (refusal_bytes k) out r → Holds (lines_to count (chaining from to s)) out r
+pub chain_refuses : {from to : ℕ} {s : List ℕ} → Bytes s → (count : List ℕ) {list list' out : List ℕ} {a : Result Listed Refusal} {k : Refusal} {r : ℕ} → ChainCall from to s list list' a
+    → 1025 ≤ length list → a ≡ Err k → Holds (refusal_bytes (number k)) out r → Holds (lines_to count (chaining from to s)) out r
 unfolding lines_to answer_of listingMeant
 chain_refuses {from} {to} {s} bytes count {list} {out = out} {k = k} {r} c room e w = go (chaining from to s) refl (sym (ap listingMeant e) ∙ c.call.answer)
   where
-    go : (o : Outcome) → chaining from to s ≡ o → refused_with k ≡ answer_of o (length list) → Holds (lines_to count o) out r
+    go : (o : Outcome) → chaining from to s ≡ o → refused_with (number k) ≡ answer_of o (length list) → Holds (lines_to count o) out r
     go (result names) e p =
         let fits = chain_fits from to s bytes names e in
         let q = answer_fits names (length list) (omega arith) in
         let z : ◌≡◌ {A = ℕ} 0 1 = cc in absurd (omega arith)
-    go (refusal j) e p = let q : j ≡ k = cc in rw q w
+    go (refusal j) e p = let q : j ≡ number k = cc in rw q w

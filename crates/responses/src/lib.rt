@@ -10,13 +10,11 @@ ghost use Rattle.decimal.specs.Decimal.{lines, Writes};
 ghost use Rattle.followed.specs.Followed.{following};
 ghost use Rattle.fixed_meaning.specs.Fixed.{sizing, placing};
 ghost use Rattle.fixed_meaning.specs.Valuing.{valuing};
+ghost use Rattle.refusal.specs.Numbers.{number};
 ghost use Rattle.bundle.specs.Opened.{answer_meant};
 ghost use Rattle.responses.specs.Response.{refusal_bytes, response_to, count_for, lines_to, size_to, value_to, answer_to, Holds};
 
-use bundle::Answer;
-use offsets::Fixed;
-use search_from::Listing;
-use values::Valued;
+use refusal::Refusal;
 use words::Order;
 
 // Room for a report or a renumbered bundle: a longer one is refused with 9.
@@ -29,23 +27,23 @@ const FIELD_ROOM: usize = 8192;
 pub const ROOM: usize = 98304;
 
 // Puts 7E and the number of a refusal into the first places of `out`. Returns how many bytes that are, as all functions here do.
-fn put_refusal(k: u8, out: &mut [u8]) -> usize
+fn put_refusal(refusal: Refusal, out: &mut [u8]) -> usize
     requires { 2 ≤ length out.old }
-    ensures { Holds (refusal_bytes k) out.new result }
+    ensures { Holds (refusal_bytes (number refusal)) out.new result }
 {
     out[0] = 0x7E;
-    out[1] = k;
+    out[1] = u8::from(refusal);
     2
 }
 
 // What a call left in `out`, or the refusal that it answered.
-fn finish(answer: Answer, out: &mut [u8]) -> usize
+fn finish(answer: Result<usize, Refusal>, out: &mut [u8]) -> usize
     requires { 2 ≤ length out.old }
     ensures { (o : Outcome) (before : List ℕ) → Call o before out.old (answer_meant answer) → Holds (response_to o (length before)) out.new result }
 {
     match answer {
-        Answer::Accepted(n) => n,
-        Answer::Refused(k) => put_refusal(k, out),
+        Ok(n) => n,
+        Err(refusal) => put_refusal(refusal, out),
     }
 }
 
@@ -88,11 +86,11 @@ fn respond_chain(bundle: &[u8], from: u16, to: u16, counted: bool, out: &mut [u8
     let mut list = [0u16; bundle::CHAIN_LIMIT];
     let answer = find_chain::find_layout_dependency_chain(bundle, from, to, &mut list);
     match answer {
-        Listing::Listed(n, followed) => {
-            let first = put_count(counted, followed, out);
-            decimal::write_names(&list, n, out, first)
+        Ok(listed) => {
+            let first = put_count(counted, listed.followed, out);
+            decimal::write_numbers(&list[..listed.names], out, first)
         }
-        Listing::Refused(k) => put_refusal(k, out),
+        Err(refusal) => put_refusal(refusal, out),
     }
 }
 
@@ -102,14 +100,14 @@ fn respond_size(bundle: &[u8], definition: u16, out: &mut [u8]) -> usize
     ensures { Holds (size_to (sizing definition bundle.now) (placing definition bundle.now) 8192) out.new result }
 {
     let mut list = [0u32; FIELD_ROOM];
-    let answer = offsets::fixed_size(bundle, definition as usize, &mut list);
+    let answer = offsets::fixed_size(bundle, usize::from(definition), &mut list);
     match answer {
-        Fixed::Sized(size, alignment, n) => {
-            let second = decimal::put_line(out, 0, size);
-            let third = decimal::put_line(out, second, alignment);
-            decimal::write_numbers(&list, n, out, third)
+        Ok(placement) => {
+            let second = decimal::put_line(out, 0, placement.size);
+            let third = decimal::put_line(out, second, placement.alignment);
+            decimal::write_numbers(&list[..placement.offsets], out, third)
         }
-        Fixed::Refused(k) => put_refusal(k, out),
+        Err(refusal) => put_refusal(refusal, out),
     }
 }
 
@@ -118,10 +116,10 @@ fn respond_value(bundle: &[u8], definition: u16, out: &mut [u8]) -> usize
     requires { 21 ≤ length out.old }
     ensures { Holds (value_to (valuing definition bundle.now)) out.new result }
 {
-    let value = size_value::size_value(bundle, definition as usize);
+    let value = size_value::size_value(bundle, usize::from(definition));
     match value {
-        Valued::Is(n) => decimal::put_signed(out, 0, n),
-        Valued::Refused(k) => put_refusal(k, out),
+        Ok(n) => decimal::put_signed(out, 0, n),
+        Err(refusal) => put_refusal(refusal, out),
     }
 }
 

@@ -1,6 +1,7 @@
 -- The records of an expression or type lie one after another, and say what its tree says.
 --     Flat                                a run of records from one position to another
 --     expr_flat, type_flat, members_flat  the laws: an expression, type or list of members that was read is such a run
+use Rattle.std.specs.Prelude.{Ok}
 use Prim.Native.Nat.{ℕ, ◌+◌, ◌≤◌, ◌<◌}
 use native.Mathlib.Omega.{arith}
 use mathlib.Core.Path.{◌≡◌, refl, sym}
@@ -10,7 +11,6 @@ use Rattle.meaning.specs.Kinds.{Form, OfType, SizeUnion}
 use Rattle.meaning.specs.ReadExpr.{read_expr}
 use Rattle.meaning.specs.ReadType.{read_members, read_ty}
 use Rattle.meaning.specs.Tree.{Ty, primitive, type_ref, struct, union, enum, array, size_union}
-use Rattle.bundle.specs.declared.Step.TheVariants.{Next}
 use Rattle.bundle.specs.View.{step_of}
 use Rattle.bundle.specs.Definitions.{type_at, members_at}
 use Rattle.bundle.specs.Expressions.{expr_at}
@@ -70,20 +70,20 @@ module _ (s : List ℕ) where
   }
 
   -- what was read is such a run
-  pub expr_flat : (d at m : ℕ) → Next m ≡ step_of (read_expr d s at) → Flat at m (expr_parts (expr_at d s at))
+  pub expr_flat : (d at m : ℕ) → Ok m ≡ step_of (read_expr d s at) → Flat at m (expr_parts (expr_at d s at))
   unfolding said
   expr_flat d at m e = runs.expr_flat (said d) d at m e
 
-  pub type_flat : (d at m : ℕ) → Next m ≡ step_of (read_ty d s at) → Flat at m (type_parts (type_at d s at))
+  pub type_flat : (d at m : ℕ) → Ok m ≡ step_of (read_ty d s at) → Flat at m (type_parts (type_at d s at))
   unfolding said
   type_flat d at m e = runs.type_flat (said d) d (omega arith) at m e
 
-  pub members_flat : (d k n at m : ℕ) → at ≤ length s → Next m ≡ step_of (read_members (read_ty d) k n s at) → Flat at m (members_parts (members_at d k n s at))
+  pub members_flat : (d k n at m : ℕ) → at ≤ length s → Ok m ≡ step_of (read_members (read_ty d) k n s at) → Flat at m (members_parts (members_at d k n s at))
   unfolding said
   members_flat d k n at m = runs.members_flat (said d) d (type_flat d) k n at m
 
   -- a type has a record
-  pub type_forward : (d at m : ℕ) → Next m ≡ step_of (read_ty d s at) → at < m
+  pub type_forward : (d at m : ℕ) → Ok m ≡ step_of (read_ty d s at) → at < m
   type_forward d at m e = go (type_at d s at) (type_flat d at m e).run
     where
       go : (t : Ty) → Run s m at (type_parts t) → at < m

@@ -2,12 +2,14 @@
 -- them hands out.
 --     Scan                                what a scan hands out: for a run of records, for one record, and for a tree
 --     expr_flat, type_flat, members_flat  the laws: for what was read a scan hands out what it hands out for the tree
+use Rattle.std.specs.Prelude.{Ok, Result}
 use Prim.Native.Nat.{ℕ, zero, suc, ◌+◌, ◌-◌, ◌*◌, ◌≤◌, ◌<◌}
 use native.Mathlib.Omega.{arith}
 use mathlib.Core.Bool.{false}
 use mathlib.Core.Path.{◌≡◌, refl, ◌∙◌}
 use mathlib.Core.List.{List, [], ◌++◌}
 use lib.ListN.{length, get_or}
+use Rattle.refusal.specs.declared.Refusal.{Refusal}
 use Rattle.meaning.specs.Kinds.{ExprForm, Literal, FieldRef, Sizeof, Alignof, Binary, Unary}
 use Rattle.meaning.specs.Kinds.{Primitive, TypeRef, Struct, Union, Enum, Array, SizeUnion}
 use Rattle.meaning.specs.Kinds.{Form, OfExpr, OfType, OfMember, OfRecord, Unknown}
@@ -16,8 +18,6 @@ use Rattle.meaning.specs.ReadExpr.{read_expr, body}
 use Rattle.meaning.specs.ReadType.{head, member_head, read_members, read_ty}
 use Rattle.meaning.specs.Tree.{Attributes, Expr, literal, field_ref, sizeof, alignof, binary, unary}
 use Rattle.meaning.specs.Tree.{Ty, primitive, type_ref, struct, union, enum, array, size_union, member, Members, none, more}
-use Rattle.bundle.specs.declared.Count.TheVariants.{Of}
-use Rattle.bundle.specs.declared.Step.TheVariants.{Next}
 use Rattle.bundle.specs.View.{step_of, count_of, Reads}
 use Rattle.bundle.specs.Definitions.{type_at, members_at}
 use Rattle.bundle.specs.Expressions.{expr_at}
@@ -31,7 +31,7 @@ use Rattle.bundle.proofs.Parts.{type_ref_is, GroupParts, struct_parts, struct_co
 use Rattle.scan.specs.Scan.{record_length, is_size_union, form_at}
 
 -- two ends of the same
-next_same : {m n : ℕ} → Next m ≡ Next n → m ≡ n
+next_same : {m n : ℕ} → ◌≡◌ {A = Result ℕ Refusal} (Ok m) (Ok n) → m ≡ n
 next_same e = cc
 
 -- what a scan over the bytes hands out, of types with at most so many levels
@@ -64,7 +64,7 @@ pub record Scan (s : List ℕ) (limit : ℕ) (A : Type 0) : Type 1 where
   pub none_is : of_members none ≡ []
   pub more_is : (at w n v : ℕ) (t : Ty) (ms : Members) → of_members (more (member n v t) ms) ≡ one at (OfMember w) ++ (of_type t ++ of_members ms)
   -- for a size-discriminated union that was read, by its members
-  pub size_union_is : (d at i m : ℕ) (a : Attributes) (ms : Members) → d ≤ limit → form_at s at ≡ OfType SizeUnion → Next m ≡ step_of (read_ty d s at)
+  pub size_union_is : (d at i m : ℕ) (a : Attributes) (ms : Members) → d ≤ limit → form_at s at ≡ OfType SizeUnion → Ok m ≡ step_of (read_ty d s at)
       → i ≡ at + record_length (OfType SizeUnion) → Flat i m (of_members ms) → Flat at m (of_type (size_union a ms))
 
 module _ {s : List ℕ} {limit : ℕ} {A : Type 0} (x : Scan s limit A) where
@@ -75,10 +75,10 @@ module _ {s : List ℕ} {limit : ℕ} {A : Type 0} (x : Scan s limit A) where
 
   -- the law of expressions, where d levels are left
   abbrev ExprFlat : ℕ → Type 0
-  ExprFlat d = (at m : ℕ) → Next m ≡ step_of (read_expr d s at) → x.Flat at m (x.of_expr (expr_at d s at))
+  ExprFlat d = (at m : ℕ) → Ok m ≡ step_of (read_expr d s at) → x.Flat at m (x.of_expr (expr_at d s at))
 
   -- a node, by the law of what is inside it
-  module _ (d at m : ℕ) (e : Next m ≡ step_of (read_expr d s at)) (inner : ExprFlat (d - 1)) where
+  module _ (d at m : ℕ) (e : Ok m ≡ step_of (read_expr d s at)) (inner : ExprFlat (d - 1)) where
     r : Reads (read_expr d s at)
     r = ended_reads (read_expr d s at) m e
 
@@ -86,7 +86,7 @@ module _ {s : List ℕ} {limit : ℕ} {A : Type 0} (x : Scan s limit A) where
     o = record { deep = expr_deep d at s r; there = expr_there d at s r; form = refl }
 
     -- a record with nothing inside it
-    leaf : (f : ExprForm) → form_at s at ≡ OfExpr f → (w : ℕ) → record_length (OfExpr f) ≡ 1 + w → Next m ≡ step_of (body w s (at + 1)) → x.Flat at m (x.one at (OfExpr f))
+    leaf : (f : ExprForm) → form_at s at ≡ OfExpr f → (w : ℕ) → record_length (OfExpr f) ≡ 1 + w → Ok m ≡ step_of (body w s (at + 1)) → x.Flat at m (x.one at (OfExpr f))
     unfolding is_size_union
     leaf f p w q g = let b = body_where w (at + 1) m s g in x.single at m (OfExpr f) p refl (omega (arith, b.0, q)) (omega (arith, b.0, b.1))
 
@@ -113,13 +113,13 @@ module _ {s : List ℕ} {limit : ℕ} {A : Type 0} (x : Scan s limit A) where
 
   -- the law of types, where d levels are left
   abbrev TypeFlat : ℕ → Type 0
-  TypeFlat d = (at m : ℕ) → Next m ≡ step_of (read_ty d s at) → x.Flat at m (x.of_type (type_at d s at))
+  TypeFlat d = (at m : ℕ) → Ok m ≡ step_of (read_ty d s at) → x.Flat at m (x.of_type (type_at d s at))
 
   -- n members of kind k, by the law of their types
   module _ (d : ℕ) (inner : TypeFlat d) (k : ℕ) where
     -- the law of n members
     abbrev MembersFlat : ℕ → ℕ → ℕ → Type 0
-    MembersFlat n at m = at ≤ length s → Next m ≡ step_of (read_members (read_ty d) k n s at) → x.Flat at m (x.of_members (members_at d k n s at))
+    MembersFlat n at m = at ≤ length s → Ok m ≡ step_of (read_members (read_ty d) k n s at) → x.Flat at m (x.of_members (members_at d k n s at))
 
     -- the first of them
     member_step : (n at m : ℕ) → 0 < n → ((i : ℕ) → MembersFlat (n - 1) i m) → MembersFlat n at m
@@ -140,7 +140,7 @@ module _ {s : List ℕ} {limit : ℕ} {A : Type 0} (x : Scan s limit A) where
     members_flat (suc n) at m b e = let q : suc n - 1 ≡ n = omega arith in member_step (suc n) at m (omega arith) (rw q (λ i. members_flat n i m)) b e
 
   -- a type, by the laws of what is inside it
-  module _ (d at m : ℕ) (l : d ≤ limit) (e : Next m ≡ step_of (read_ty d s at)) (inner : TypeFlat (d - 1)) where
+  module _ (d at m : ℕ) (l : d ≤ limit) (e : Ok m ≡ step_of (read_ty d s at)) (inner : TypeFlat (d - 1)) where
     t_reads : Reads (read_ty d s at)
     t_reads = ended_reads (read_ty d s at) m e
 
@@ -149,7 +149,7 @@ module _ {s : List ℕ} {limit : ℕ} {A : Type 0} (x : Scan s limit A) where
 
     -- members of kind k behind the type's own record
     grouped : {make : Attributes → Members → Ty} {k : ℕ} → Reads (head 2 s (at + 1))
-        → ((n i : ℕ) → Of n i ≡ count_of (head 2 s (at + 1)) → GroupParts make k d s at n i)
+        → ((n i : ℕ) → Ok (n, i) ≡ count_of (head 2 s (at + 1)) → GroupParts make k d s at n i)
         → ((i : ℕ) (a : Attributes) (ms : Members) → i ≡ at + 12 → x.Flat i m (x.of_members ms) → x.Flat at m (x.of_type (make a ms)))
         → x.Flat at m (x.of_type (type_at d s at))
     grouped {make} {k} h parts is =

@@ -1,7 +1,9 @@
 -- Going over the records of a run of bytes, one after another.
+use Rattle.std.specs.Prelude.{None, Some}
+use Rattle.std.specs.Bool.{then_some}
 use Prim.Native.Nat.{ℕ, ◌+◌, ◌≤◌, ◌<◌}
 use native.Mathlib.Omega.{arith}
-use mathlib.Core.Bool.{Bool, true, false, cond, ◌&&◌, false≢true}
+use mathlib.Core.Bool.{Bool, true, false, cond, ◌&&◌, not, false≢true}
 use mathlib.Core.Path.{◌≡◌, refl, sym, ap, ap₂, ◌∙◌}
 use mathlib.Core.List.{List, [], ◌∷◌, ◌++◌}
 use lib.Dec.{eqb}
@@ -9,17 +11,12 @@ use lib.ListN.{length}
 use Rattle.meaning.specs.Kinds.{Literal, FieldRef, Sizeof, Alignof, Binary, Unary}
 use Rattle.meaning.specs.Kinds.{Primitive, TypeRef, Struct, Union, Enum, Array, SizeUnion}
 use Rattle.meaning.specs.Kinds.{Form, OfExpr, OfType, OfMember, OfRecord, Unknown}
-use types.Run.{OneOf, miss}
-use denote.Enum.Declared.{tag_of}
 use Rattle.bundle.specs.declared.Form as code
 use Rattle.bundle.specs.declared.Form.TheVariants as form
 use Rattle.bundle.specs.declared.ExprForm.TheVariants as expr
 use Rattle.bundle.specs.declared.TypeForm.{TypeForm}
 use Rattle.bundle.specs.declared.TypeForm.TheVariants as type
 use Rattle.bundle.specs.View.{expr_form_meant, type_form_meant, form_meant}
-use Rattle.bundle.specs.contracts.Form.{the_type}
-use Rattle.bundle.specs.contracts.TypeForm as type-form
-use Rattle.scan.specs.declared.Piece.TheVariants.{Stops, Length}
 use Rattle.scan.specs.Parts.{Part, other, lead, reference, arrayed, sized, is_lead, lead_names}
 use Rattle.scan.specs.Scan.{record_length, record_name, part_of, form_at, part_at, record_end, Run, Records, stops, from_stop, NextStop, piece_of}
 
@@ -71,8 +68,8 @@ pub a_type_ref : (s : List ℕ) (at : ℕ) {f : Form} → f ≡ OfType TypeRef �
 unfolding part_of
 a_type_ref s at p e = rw (sym e ∙ p)
 
--- a form that a `let .. else` has found to be no TypeRef's
-pub no_type : (s : List ℕ) (at : ℕ) (f : code.Form) → OneOf (0 ∷ 2 ∷ 3 ∷ 4 ∷ []) (tag_of the_type f) → is_lead (part_of s at (form_meant f)) ≡ false
+-- a form that is no type's, and a type's form that is no TypeRef's
+pub no_type : (s : List ℕ) (at : ℕ) (f : code.Form) → ((t : TypeForm) → f ≡ form.OfType t → ⊥) → is_lead (part_of s at (form_meant f)) ≡ false
 unfolding form_meant part_of expr_form_meant
 no_type s at (form.OfExpr (expr.Literal w)) o = refl
 no_type s at (form.OfExpr (expr.FieldRef n)) o = refl
@@ -80,15 +77,15 @@ no_type s at (form.OfExpr expr.Sizeof) o = refl
 no_type s at (form.OfExpr expr.Alignof) o = refl
 no_type s at (form.OfExpr expr.Binary) o = refl
 no_type s at (form.OfExpr expr.Unary) o = refl
-no_type s at (form.OfType x) o = absurd (miss (0 ∷ 2 ∷ 3 ∷ 4 ∷ []) 1 tt o)
+no_type s at (form.OfType x) o = absurd (o x refl)
 no_type s at (form.OfMember w) o = refl
 no_type s at (form.OfRecord r) o = refl
 no_type s at form.Unknown o = refl
 
-pub no_type_ref : (s : List ℕ) (at : ℕ) (t : TypeForm) → OneOf (0 ∷ 2 ∷ 3 ∷ 4 ∷ 5 ∷ 6 ∷ []) (tag_of type-form.the_type t) → is_lead (part_of s at (OfType (type_form_meant t))) ≡ false
+pub no_type_ref : (s : List ℕ) (at : ℕ) (t : TypeForm) → (t ≡ type.TypeRef → ⊥) → is_lead (part_of s at (OfType (type_form_meant t))) ≡ false
 unfolding type_form_meant part_of
 no_type_ref s at type.Primitive o = refl
-no_type_ref s at type.TypeRef o = absurd (miss (0 ∷ 2 ∷ 3 ∷ 4 ∷ 5 ∷ 6 ∷ []) 1 tt o)
+no_type_ref s at type.TypeRef o = absurd (o refl)
 no_type_ref s at type.Struct o = refl
 no_type_ref s at type.Union o = refl
 no_type_ref s at type.Enum o = refl
@@ -227,7 +224,7 @@ module _ (sizes jagged : Bool) where
       passing_there = rw e (omega (arith, here.there, g.bound))
 
       -- it stops the walk
-      pub passing_stop : Stops ≡ piece_of sizes jagged (part_of s next f) (record_length f) → NextStop s at end sizes jagged next
+      pub passing_stop : None ≡ piece_of sizes jagged (part_of s next f) (record_length f) → NextStop s at end sizes jagged next
       passing_stop q =
           let k : stops sizes jagged (part_at s next) ≡ true = go (stops sizes jagged (part_at s next)) (rw e at q) in
           record {
@@ -236,16 +233,16 @@ module _ (sizes jagged : Bool) where
             stop = λ l. k;
           }
         where
-          go : (t : Bool) → Stops ≡ cond t Stops (Length (record_length (form_at s next))) → t ≡ true
+          go : (t : Bool) → None ≡ then_some (not t) (record_length (form_at s next)) → t ≡ true
           go true q = refl
           go false q = let z : ◌≡◌ {A = ℕ} 0 1 = cc in absurd (omega arith)
 
       -- it does not, and has this length
-      module _ {n : ℕ} (q : Length n ≡ piece_of sizes jagged (part_of s next f) (record_length f)) where
+      module _ {n : ℕ} (q : Some n ≡ piece_of sizes jagged (part_of s next f) (record_length f)) where
         other_length : (stops sizes jagged (part_at s next) ≡ false) × (n ≡ record_length (form_at s next))
         other_length = go (stops sizes jagged (part_at s next)) (rw e at q)
           where
-            go : (t : Bool) → Length n ≡ cond t Stops (Length (record_length (form_at s next))) → (t ≡ false) × (n ≡ record_length (form_at s next))
+            go : (t : Bool) → Some n ≡ then_some (not t) (record_length (form_at s next)) → (t ≡ false) × (n ≡ record_length (form_at s next))
             go true q = let z : ◌≡◌ {A = ℕ} 0 1 = cc in absurd (omega arith)
             go false q = (refl, cc)
 

@@ -1,13 +1,15 @@
 -- The records of a run of bytes, one after another, and the first of them at which a walk stops.
-use Rattle.std.specs.Prelude.{ℕ, ◌+◌, ◌*◌, ◌≤◌, ◌<◌, Bool, true, false, cond, ◌&&◌, List, [], ◌∷◌, ◌≡◌, eqb, length, get_or}
+use Rattle.std.specs.Prelude.{Option}
+use Rattle.std.specs.Bool.{then_some}
+use Rattle.std.specs.Prelude.{ℕ, ◌+◌, ◌*◌, ◌≤◌, ◌<◌, Bool, true, false, cond, ◌&&◌, not, List, [], ◌∷◌, ◌≡◌, eqb, length, get_or}
 use Rattle.meaning.specs.Kinds.{Literal, FieldRef, Sizeof, Alignof, Binary, Unary}
 use Rattle.meaning.specs.Kinds.{Primitive, TypeRef, Struct, Union, Enum, Array, SizeUnion}
 use Rattle.meaning.specs.Kinds.{Form, OfExpr, OfType, OfMember, OfRecord, Unknown, form_of}
 use Rattle.meaning.specs.Circle.{resolve}
 use Rattle.meaning.specs.Reader.{little}
 use Rattle.bundle.specs.Definitions.{bundle_of}
-use Rattle.scan.specs.declared.Piece.{Piece}
-use Rattle.scan.specs.declared.Piece.TheVariants.{Stops, Length}
+use Rattle.scan.specs.declared.Walk.{Walk}
+use Rattle.scan.specs.declared.Walk.TheVariants.{Definitions, Sizes, Jagged, SizesAndJagged}
 use Rattle.scan.specs.Parts.{Part, other, lead, reference, arrayed, sized, lead_names}
 
 -- the length of a record of this form inside a type, and 1 for all else
@@ -110,6 +112,19 @@ pub record NextStop (s : List ℕ) (at end : ℕ) (sizes jagged : Bool) (r : ℕ
   pub rest : (ps : List Part) → Run s end at ps → Run s end r (from_stop sizes jagged ps)
   pub stop : r < end → stops sizes jagged (part_at s r) ≡ true
 
+-- a walk asks for sizes; for jagged arrays
+abbrev pub asks_sizes : Walk → Bool
+asks_sizes Definitions = false
+asks_sizes Sizes = true
+asks_sizes Jagged = false
+asks_sizes SizesAndJagged = true
+
+abbrev pub asks_jagged : Walk → Bool
+asks_jagged Definitions = false
+asks_jagged Sizes = false
+asks_jagged Jagged = true
+asks_jagged SizesAndJagged = true
+
 -- how the code shows a record
-abbrev pub piece_of : Bool → Bool → Part → ℕ → Piece
-piece_of sizes jagged p n = cond (stops sizes jagged p) Stops (Length n)
+abbrev pub piece_of : Bool → Bool → Part → ℕ → Option ℕ
+piece_of sizes jagged p n = then_some (not (stops sizes jagged p)) n

@@ -1,85 +1,87 @@
 // Records lie one after another: how long each is, and which of them a walk over a type stops at.
 #![tactic(auto)]
 
-ghost use Rattle.std.specs.Prelude.{cond, ◌&&◌, ◌≡◌, ◌+◌, ◌≤◌, ◌<◌, eqb, length, get_or};
+ghost use Rattle.std.specs.Prelude.{◌&&◌, ◌≡◌, ◌+◌, ◌≤◌, ◌<◌, eqb, length, get_or};
 ghost use Rattle.bundle.specs.View.{form_meant};
-ghost use Rattle.scan.specs.declared.Piece.TheVariants.{Stops, Length};
 ghost use Rattle.scan.specs.Parts.{is_lead};
-ghost use Rattle.scan.specs.Scan.{record_length, part_of, part_at, Records, NextStop, piece_of};
+ghost use Rattle.scan.specs.Scan.{record_length, part_of, part_at, Records, NextStop, piece_of, asks_sizes, asks_jagged};
 
 use bundle::{ExprForm, Form, TypeForm};
 
-// A record in a scan: one at which the walk stops, or another of some length.
+// What a walk over records stops at: what leads to a definition, and also what makes a size depend on a field, jagged arrays, or both.
+// No caller asks for both yet.
 #[derive(Clone, Copy)]
-pub enum Piece {
-    Stops,
-    Length(usize),
+pub enum Walk {
+    Definitions,
+    Sizes,
+    Jagged,
+    SizesAndJagged,
 }
 
-// A record of this length, where it is known whether the walk stops.
-fn piece_if(stops: bool, length: usize) -> Piece
-    ensures { result ≡ cond stops Stops (Length length) }
+// Whether the walk asks for sizes.
+fn asks_sizes(walk: Walk) -> bool
+    ensures { result ≡ asks_sizes walk }
 {
-    if stops {
-        Piece::Stops
-    } else {
-        Piece::Length(length)
-    }
+    matches!(walk, Walk::Sizes | Walk::SizesAndJagged)
+}
+
+// Whether it asks for jagged arrays.
+fn asks_jagged(walk: Walk) -> bool
+    ensures { result ≡ asks_jagged walk }
+{
+    matches!(walk, Walk::Jagged | Walk::SizesAndJagged)
 }
 
 // Whether the array at `at` is jagged, in a walk that asks for that.
-fn is_jagged(s: &[u8], at: usize, jagged: bool) -> bool
+fn is_jagged(s: &[u8], at: usize, walk: Walk) -> bool
     requires { at + 11 ≤ length s.now }
-    ensures { result ≡ (jagged && eqb (get_or s.now (at + 10) 0) 1) }
+    ensures { result ≡ (asks_jagged walk && eqb (get_or s.now (at + 10) 0) 1) }
 {
-    if jagged {
-        return s[at + 10] == 1;
-    }
-    false
+    asks_jagged(walk) && s[at + 10] == 1
 }
 
-// What the record at `at`, of this form, is in a walk that asks for sizes, or for jagged arrays, or for neither.
-fn piece_of(s: &[u8], at: usize, form: Form, sizes: bool, jagged: bool) -> Piece
+// The length of the record at `at`, of this form, or None where the walk stops at it.
+#[tactic(auto, unfolding(bundle::specs::View::form_meant, bundle::specs::View::expr_form_meant, bundle::specs::View::type_form_meant, crate::specs::Scan::record_length, crate::specs::Scan::part_of, crate::specs::Scan::stops))]
+fn piece_of(s: &[u8], at: usize, form: Form, walk: Walk) -> Option<usize>
     requires { at + record_length (form_meant form) ≤ length s.now }
-    ensures { result ≡ piece_of sizes jagged (part_of s.now at (form_meant form)) (record_length (form_meant form)) }
+    ensures { result ≡ piece_of (asks_sizes walk) (asks_jagged walk) (part_of s.now at (form_meant form)) (record_length (form_meant form)) }
 {
     match form {
         Form::OfExpr(e) => match e {
-            ExprForm::Literal(w) => Piece::Length(1 + (w as usize)),
-            ExprForm::FieldRef(n) => piece_if(sizes, 1 + 2 * (n as usize)),
-            ExprForm::Sizeof => Piece::Length(3),
-            ExprForm::Alignof => Piece::Length(3),
-            ExprForm::Binary => Piece::Length(1),
-            ExprForm::Unary => Piece::Length(1),
+            ExprForm::Literal(w) => Some(1 + usize::from(w)),
+            ExprForm::FieldRef(n) => (!asks_sizes(walk)).then_some(1 + 2 * usize::from(n)),
+            ExprForm::Sizeof => Some(3),
+            ExprForm::Alignof => Some(3),
+            ExprForm::Binary => Some(1),
+            ExprForm::Unary => Some(1),
         },
         Form::OfType(t) => match t {
-            TypeForm::Primitive => Piece::Length(1),
-            TypeForm::TypeRef => Piece::Stops,
-            TypeForm::Struct => Piece::Length(12),
-            TypeForm::Union => Piece::Length(12),
-            TypeForm::Enum => Piece::Length(12),
-            TypeForm::Array => piece_if(is_jagged(s, at, jagged), 11),
-            TypeForm::SizeUnion => piece_if(sizes, 12),
+            TypeForm::Primitive => Some(1),
+            TypeForm::TypeRef => None,
+            TypeForm::Struct => Some(12),
+            TypeForm::Union => Some(12),
+            TypeForm::Enum => Some(12),
+            TypeForm::Array => (!is_jagged(s, at, walk)).then_some(11),
+            TypeForm::SizeUnion => (!asks_sizes(walk)).then_some(12),
         },
-        Form::OfMember(w) => Piece::Length(3 + (w as usize)),
-        Form::OfRecord(_) => Piece::Length(1),
-        Form::Unknown => Piece::Length(1),
+        Form::OfMember(w) => Some(3 + usize::from(w)),
+        Form::OfRecord(_) => Some(1),
+        Form::Unknown => Some(1),
     }
 }
 
-// The first record from `at` to `end` at which the walk stops, or `end`.
-pub fn next_stop(s: &[u8], at: usize, end: usize, sizes: bool, jagged: bool) -> usize
+// The first record from `at` to `end` at which the walk stops, or `end`: a place to go on from, not an Option, as callers loop while it
+// is before `end`.
+pub fn next_stop(s: &[u8], at: usize, end: usize, walk: Walk) -> usize
     requires { Records s.now at end }
-    ensures { NextStop s.now at end sizes jagged result }
+    ensures { NextStop s.now at end (asks_sizes walk) (asks_jagged walk) result }
 {
     let mut next = at;
     while next < end {
-        let form = bundle::form_of(s[next]);
-        let piece = piece_of(s, next, form, sizes, jagged);
-        match piece {
-            Piece::Stops => return next,
-            Piece::Length(n) => next += n,
-        }
+        let Some(n) = piece_of(s, next, bundle::form_of(s[next]), walk) else {
+            return next;
+        };
+        next += n;
     }
     next
 }
@@ -89,12 +91,8 @@ pub fn leads(s: &[u8], at: usize) -> bool
     requires { at < length s.now }
     ensures { result ≡ is_lead (part_at s.now at) }
 {
-    let form = bundle::form_of(s[at]);
-    let Form::OfType(t) = form else {
+    let Form::OfType(t) = bundle::form_of(s[at]) else {
         return false;
     };
-    let TypeForm::TypeRef = t else {
-        return false;
-    };
-    true
+    matches!(t, TypeForm::TypeRef)
 }

@@ -23,6 +23,7 @@ use lib.Seq.{get_or-set_other, drop-set-add, take-suc-set, append_snoc, take_at,
 use Rattle.meaning.specs.Chain.{chain_of}
 use Rattle.meaning.proofs.ChainLaws.{none_from, none_to, chain_self}
 use Rattle.meaning.proofs.Chains.{chain_length}
+use Rattle.std.specs.Prelude.{None}
 use Rattle.table.specs.Table.{PlaceOf}
 use Rattle.chain.specs.Found.{Stands}
 use Rattle.chain.specs.Index.{names_in, name_in, from_in, to_in, numbered, named, Indexed}
@@ -224,8 +225,8 @@ module _ {count : ℕ} {edges : List ℕ} (s : Indexed count edges) where
         ap (λ (j : ℕ). take j (list_in count work)) end ∙ s₀.done k e end
 
   -- a name that has no number
-  pub from_none : {from to r : ℕ} → PlaceOf edges (5 * count + 1) 256 (names_in edges) from r → names_in edges ≤ r → (from ≡ to → ⊥) → chain_of (named count edges) from to ≡ none
-  from_none {from} {to} place l ne = none_from (named count edges) from to (λ d k e. omega (arith, place.only (from_in edges d) (s.froms d k) e, s.froms d k)) ne
+  pub from_none : {from to : ℕ} → PlaceOf edges (5 * count + 1) 256 (names_in edges) from None → (from ≡ to → ⊥) → chain_of (named count edges) from to ≡ none
+  from_none {from} {to} out ne = none_from (named count edges) from to (λ d k e. out (from_in edges d) (s.froms d k) e) ne
 
   pub settled_for : {until x : ℕ} {work : List ℕ} → (until ≡ x) ⊎ (names_in edges ≤ until) → Settled count edges until work → Settled count edges x work
   settled_for {work = work} (inl e) q = subst (λ (y : ℕ). Settled count edges y work) e q

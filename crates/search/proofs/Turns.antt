@@ -10,10 +10,9 @@
 use Prim.Native.Nat.{ℕ, ◌+◌, ◌*◌, ◌≤◌, ◌<◌}
 use mathlib.Core.Path.{◌≡◌, refl, sym, ap, ◌∙◌, subst}
 use mathlib.Core.Bool.{true, false}
-use mathlib.Core.Logic.{◌⊎◌, inr, ⊎_elim, by_cases}
+use mathlib.Core.Logic.{◌⊎◌, inr, ⊎_elim}
 use mathlib.Core.List.{List}
 use native.Mathlib.Omega.{arith}
-use native.Mathlib.Decide.{ℕ_discrete}
 use lib.ListN.{length, length-set, get_or, set}
 use lib.Seq.{get_or-set_same, get_or-set_other}
 use Rattle.chain.specs.Index.{names_in, from_in, to_in, link_in, first_in, numbered, NextTo, Indexed}
@@ -21,11 +20,6 @@ use Rattle.search.specs.Seeking.{Pushed}
 use Rattle.search.specs.Work.{far_in, queue_in, hop_in, entries_in, next_in, Exploring, Paused, Settled, marked, AfterEntry, Hopped, Added, known, new, Below}
 use Rattle.search.proofs.Breadth.{seeking_start, seeking_room, seeking_push, seeking_known, seeking_skip, seeking_next, seeking_back, seeking_few, seeking_same}
 use Rattle.search.proofs.Distances.{hops_start, hops_passed, hops_taken}
-
-pub clear_more : (work : List ℕ) (x : ℕ) → 3 * x + 1 < length work → ((y : ℕ) → y < x → far_in work y ≡ 0) → (y : ℕ) → y < x + 1 → far_in (set work (3 * x + 1) 0) y ≡ 0
-clear_more work x l zeros y a =
-    by_cases (ℕ_discrete y x) (λ (q : y ≡ x). rw q (get_or-set_same work (3 * x + 1) 0 0 l))
-    (λ (q : ¬ (y ≡ x)). get_or-set_other work (3 * x + 1) (3 * y + 1) 0 0 (λ r. q (omega arith)) ∙ zeros y (omega arith))
 
 -- the two stores that make x entry n
 pushed : (work : List ℕ) (n x v : ℕ) → 3 * x + 1 < length work → 3 * n + 2 < length work

@@ -3,10 +3,9 @@
 --     wanted_on                  what follows for each list follows here
 --     wanted_part                the list is the part of a slice that is lent
 use Prim.Native.Nat.{ℕ, ◌-◌}
-use mathlib.Core.Bool.{Bool, true, false}
-use mathlib.Core.Path.{◌≡◌, refl, sym, subst, ◌∙◌}
+use mathlib.Core.Bool.{Bool, false}
+use mathlib.Core.Path.{◌≡◌, refl, sym, subst}
 use mathlib.Core.List.{List}
-use native.Mathlib.Omega.{arith}
 use lib.ListN.{length, take, drop}
 use Rattle.chain.proofs.Parts.{whole_part}
 use Rattle.search.specs.Work.{IfWanted}
@@ -16,10 +15,7 @@ module _ {wanted : Bool} {list : List ℕ} {P : List ℕ → Type 0} where
   wanted_is h = record { meant = list; size = refl; same = λ _. refl; holds = h }
 
   pub wanted_not : wanted ≡ false → (meant : List ℕ) → length meant ≡ length list → P meant → IfWanted wanted list P
-  wanted_not e meant l h = record { meant = meant; size = l; same = λ t. absurd (apart (sym e ∙ t)); holds = h }
-    where
-      apart : false ≡ true → ⊥
-      apart e = let z : ◌≡◌ {A = ℕ} 0 1 = cc in omega arith
+  wanted_not e meant l h = record { meant = meant; size = l; same = λ t. absurd (cc); holds = h }
 
   module _ (w : IfWanted wanted list P) where
     pub wanted_on : {Q : List ℕ → Type 0} → ((l : List ℕ) → P l → Q l) → IfWanted wanted list Q

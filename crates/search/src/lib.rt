@@ -9,6 +9,8 @@
 //     6 count + 1           how many entries the queue has
 //     6 count + 2           the entry that is next
 //     6 count + 3 and on    the list for a chain
+// The state in place 0 and the 0 where a number is not marked are numbers, no enum and no `Option`: they stand in the caller's places of 16
+// bits (no heap, fixed memory).
 #![tactic(auto)]
 
 ghost use Rattle.std.specs.Prelude.{◌≡◌, ℕ, ◌+◌, ◌*◌, ◌≤◌, ◌<◌, length, get_or};
@@ -25,10 +27,8 @@ fn clear(work: &mut [u16], m: usize)
     requires { (m ≤ 2048) × (3 * m < length work.old) }
     ensures { (x : ℕ) → x < m → far_in work.new x ≡ 0 }
 {
-    let mut x = 0;
-    while x < m {
+    for x in 0..m {
         work[3 * x + 1] = 0;
-        x += 1;
     }
 }
 
@@ -99,11 +99,9 @@ pub fn begin(edges: &[u16], count: usize, to: u16, work: &mut [u16])
     work[0] = 1;
     work[entries] = 0;
     work[6 * count + 2] = 0;
-    let b = table::place_of(edges, 5 * count + 1, chain::BUCKETS, m, to);
-    if m <= b {
-        return;
+    if let Some(b) = table::place_of::<{ chain::BUCKETS }>(edges, 5 * count + 1, m, to) {
+        work[3 * b + 1] = 1;
+        work[2] = b as u16;
+        work[entries] = 1;
     }
-    work[3 * b + 1] = 1;
-    work[2] = b as u16;
-    work[entries] = 1;
 }

@@ -1,16 +1,13 @@
 -- The names on a chain written into a list from the back.
---     fill_bounds                           what the places that are read and written hang on
 --     filling_start, -turn, -end      before the first name, one name more, and all of them
-use Prim.Native.Nat.{ℕ, zero, suc, ◌+◌, ◌-◌, ◌*◌, ◌≤◌, ◌<◌}
+use Prim.Native.Nat.{ℕ, zero, suc, ◌+◌, ◌-◌, ◌≤◌, ◌<◌}
 use mathlib.Core.Path.{◌≡◌, refl, sym, ap, ◌∙◌, subst}
 use mathlib.Core.List.{List, [], ◌∷◌, ◌++◌, map}
 use native.Mathlib.Omega.{arith}
 use native.Mathlib.Numerals.{add-one}
 use lib.ListN.{length, length-append, length-map, length-set, get_or, get_or-append, take, drop, set, take-append-drop}
 use lib.Seq.{length-take-le, take-length, take-suc, drop_at, drop-cons, append_snoc, set_at, take-take, take_at, get_or_at, get_or-take}
-use Rattle.chain.specs.Index.{names_in, name_in, Indexed}
 use Rattle.search_from.specs.Queue.{leading, LeadingBelow}
-use Rattle.search_from.specs.Work.{before_in}
 
 -- the places before k are those of c and the others those of f: one place more of f
 back : (c f : List ℕ) (k v : ℕ) → k < length c → k < length f → get_or f k 0 ≡ v → set (take (k + 1) c ++ drop (k + 1) f) k v ≡ take k c ++ drop k f
@@ -39,34 +36,11 @@ module _ (before : ℕ → ℕ) where
 pub record Filling (name before : ℕ → ℕ) (m x n : ℕ) (list₀ list : List ℕ) (y i : ℕ) : Type 0 where
   pub within : i ≤ n
   pub size : length list ≡ length list₀
+  pub inside : 0 < i → y < m
   pub leads : (j : ℕ) → i ≡ suc j → LeadingBelow before m j y
   pub part : (k j : ℕ) → n ≡ suc k → i ≡ suc j → take i (leading before k x) ≡ leading before j y
   pub held : (k : ℕ) → n ≡ suc k → list ≡ take i list₀ ++ drop i (map name (leading before k x) ++ drop n list₀)
   pub empty : n ≡ 0 → list ≡ list₀
-
--- what the places that are read and written hang on, while the name of y is written
-pub record FillBounds (count : ℕ) (edges work list : List ℕ) (y i : ℕ) : Type 0 where
-  pub few : count ≤ 1024
-  pub names : names_in edges ≤ 2 * count
-  pub size : 9 * count + 257 ≤ length edges
-  pub room : 6 * count + 3 ≤ length work
-  pub inside : y < names_in edges
-  pub fits : i ≤ length list
-  pub left : 0 < i
-
-pub fill_bounds : {count : ℕ} (edges work : List ℕ) {list₀ list : List ℕ} {x n y i : ℕ} → Indexed count edges → 6 * count + 3 ≤ length work → n ≤ length list₀
-    → Filling (name_in count edges) (before_in work) (names_in edges) x n list₀ list y i → 0 < i → FillBounds count edges work list y i
-fill_bounds edges work {y = y} {i = i} s room fits f l =
-    let t : i ≡ suc (i - 1) = omega arith in
-    record {
-      few = s.few;
-      names = s.small;
-      size = s.size;
-      room = room;
-      inside = leads_inside (before_in work) (names_in edges) (i - 1) y (f.leads (i - 1) t);
-      fits = omega (arith, f.within, f.size);
-      left = l;
-    }
 
 module _ (name before : ℕ → ℕ) (m x n : ℕ) (list₀ : List ℕ) (fits : n ≤ length list₀) where
   written_length : (k : ℕ) → n ≡ suc k → length (map name (leading before k x)) ≡ n
@@ -77,6 +51,7 @@ module _ (name before : ℕ → ℕ) (m x n : ℕ) (list₀ : List ℕ) (fits : 
       record {
         within = omega arith;
         size = refl;
+        inside = λ l. leads_inside before m (n - 1) x (leads (n - 1) (omega arith));
         leads = leads;
         part = λ k j p q.
             let same : k ≡ j = omega arith in
@@ -120,7 +95,8 @@ module _ (name before : ℕ → ℕ) (m x n : ℕ) (list₀ : List ℕ) (fits : 
         record {
           within = omega (arith, f.within);
           size = length-set list i (name y) ∙ f.size;
-          leads = λ j q. let t : LeadingBelow before m (suc j) y = subst (λ (z : ℕ). LeadingBelow before m z y) q (f.leads i (add-one i)) in t.1;
+          inside = λ l. leads_inside before m (i - 1) (before y) (leads (i - 1) (omega arith));
+          leads = leads;
           part = λ k j p q. (stands k p (leading before j (before y)) (ap (λ (z : ℕ). leading before z y) q)).1;
           held = λ k p.
               rw (f.held k p)
@@ -131,6 +107,9 @@ module _ (name before : ℕ → ℕ) (m x n : ℕ) (list₀ : List ℕ) (fits : 
               ∙ ap name (here k p)));
           empty = λ z. absurd (omega (arith, f.within));
         }
+      where
+        leads : (j : ℕ) → i ≡ suc j → LeadingBelow before m j (before y)
+        leads j q = let t : LeadingBelow before m (suc j) y = subst (λ (z : ℕ). LeadingBelow before m z y) q (f.leads i (add-one i)) in t.1
 
   pub filling_end : (list : List ℕ) (y i : ℕ) → Filling name before m x n list₀ list y i → i ≡ 0
       → ((k : ℕ) → n ≡ suc k → list ≡ map name (leading before k x) ++ drop n list₀) × (n ≡ 0 → list ≡ list₀)

@@ -1,7 +1,7 @@
 -- What a search between numbers says of their names.
 --     count_of, chain_none_of, chain_some_of      its count and its chain
 --     count_lone, none_lone                       a name that no edge has
-use Prim.Native.Nat.{ℕ, zero, suc, ◌+◌, ◌*◌, ◌≤◌, ◌<◌}
+use Prim.Native.Nat.{ℕ, zero, suc, ◌+◌, ◌*◌, ◌<◌}
 use mathlib.Core.Path.{◌≡◌, sym, ap, ap₂, ◌∙◌, subst}
 use mathlib.Core.Logic.{by_cases}
 use mathlib.Core.List.{List, [], ◌∷◌, ◌++◌, map, map-append}
@@ -19,7 +19,9 @@ use Rattle.followed.proofs.Counting.{counted}
 use Rattle.followed.proofs.FirstWalks.{last_walk}
 use Rattle.followed.proofs.FollowedLaws.{followed_all}
 use Rattle.followed.proofs.FollowedExchanges.{reachable_map, count_map}
-use Rattle.table.specs.Table.{PlaceOf}
+use Rattle.std.specs.Prelude.{None}
+use Rattle.table.specs.Table.{PlaceOf, member, Only}
+use Rattle.table.proofs.Buckets.{PlaceOr}
 use Rattle.chain.specs.Edges.{turned}
 use Rattle.chain.specs.Index.{names_in, name_in, from_in, to_in, named, Indexed}
 use Rattle.chain.proofs.Named.{f, keeps, name_of, renamed_turned}
@@ -40,15 +42,12 @@ module _ {count : ℕ} {edges : List ℕ} (s : Indexed count edges) (small : (i 
       ∙ sym (map-append (name_in count edges) (leading before k (before x)) (x ∷ []))
 
   -- no edge has a name without a number
-  no_from : {a r : ℕ} → PlaceOf edges (5 * count + 1) 256 (names_in edges) a r → names_in edges ≤ r → (e : ℕ) → e < count → names.from e ≡ a → ⊥
-  no_from p l e k q = omega (arith, p.only (to_in edges e) (s.tos e k) q, s.tos e k)
+  no_from : {a : ℕ} → PlaceOf edges (5 * count + 1) 256 (names_in edges) a None → (e : ℕ) → e < count → names.from e ≡ a → ⊥
+  no_from out e k q = out (to_in edges e) (s.tos e k) q
 
-  no_to : {b r : ℕ} → PlaceOf edges (5 * count + 1) 256 (names_in edges) b r → names_in edges ≤ r → (e : ℕ) → e < count → names.to e ≡ b → ⊥
-  no_to p l e k q = omega (arith, p.only (from_in edges e) (s.froms e k) q, s.froms e k)
-
-  module _ {a b x y : ℕ} (p : PlaceOf edges (5 * count + 1) 256 (names_in edges) a x) (q : PlaceOf edges (5 * count + 1) 256 (names_in edges) b y) (l : x < names_in edges) (ne : a ≡ b → ⊥) where
+  module _ {a b x y : ℕ} (p : Only (member edges (5 * count + 1) 256) (names_in edges) a x) (q : PlaceOr (member edges (5 * count + 1) 256) (names_in edges) b y) (ne : a ≡ b → ⊥) where
     start : f s small x ≡ a
-    start = name_of s small x l ∙ p.here l
+    start = name_of s small x p.within ∙ p.here
 
     end : y < names_in edges → f s small y ≡ b
     end k = name_of s small y k ∙ q.here k
@@ -59,10 +58,10 @@ module _ {count : ℕ} {edges : List ℕ} (s : Indexed count edges) (small : (i 
     walk_inside z w (e ∷ es) k v = walk_inside (from_in edges e) w es (s.froms e v.0) v.2
 
     unreached : (y < names_in edges → ⊥) → Reaches (unturned count edges) x y → ⊥
-    unreached no_name r = let w = reaches_walk (unturned count edges) r in no_name (walk_inside x y w.0 l w.1)
+    unreached no_name r = let w = reaches_walk (unturned count edges) r in no_name (walk_inside x y w.0 p.within w.1)
 
     no_chain : (y < names_in edges → ⊥) → chain_of names a b ≡ none
-    no_chain no_name = none_to names a b (no_to q (omega (arith, no_name))) ne
+    no_chain no_name = none_to names a b (λ e k r. no_name (omega (arith, q.only (from_in edges e) (s.froms e k) r, s.froms e k))) ne
 
     chain_of_lem : y < names_in edges → chain_of names a b ≡ Option.map (map (f s small)) (chain_of (unturned count edges) x y)
     chain_of_lem k = ap₂ (chain_of names) (sym start) (sym (end k)) ∙ chain_of_map (f s small) (keeps s small) (unturned count edges) names (renamed_turned s small) x y
@@ -91,13 +90,13 @@ module _ {count : ℕ} {edges : List ℕ} (s : Indexed count edges) (small : (i 
         chain_of_lem k ∙ ap (Option.map (map (f s small))) e ∙ ap {B = Option (List ℕ)} some (leading_named before n y leads)
 
   -- a name that no edge has
-  module _ {a r : ℕ} (p : PlaceOf edges (5 * count + 1) 256 (names_in edges) a r) (l : names_in edges ≤ r) (b : ℕ) (ne : a ≡ b → ⊥) where
+  module _ {a : ℕ} (p : PlaceOf edges (5 * count + 1) 256 (names_in edges) a None) (b : ℕ) (ne : a ≡ b → ⊥) where
     pub none_lone : chain_of names a b ≡ none
-    none_lone = none_from names a b (no_from p l) ne
+    none_lone = none_from names a b (no_from p) ne
 
     stays : (x : ℕ) (es : List ℕ) → IsWalk names a es x → a ≡ x
     stays x [] w = w
-    stays x (e ∷ es) w = absurd (no_from p l e w.0 w.1)
+    stays x (e ∷ es) w = absurd (no_from p e w.0 w.1)
 
     pub count_lone : followed_count names a b ≡ 1
     count_lone =

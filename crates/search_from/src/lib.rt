@@ -4,6 +4,9 @@
 //     3 x          how many names the chain of the number x has, and 0 where x is not marked
 //     3 x + 1      entry x of the queue, a number
 //     3 x + 2      the number before x on its chain
+// The 0 where a number is not marked is a number and no `Option`: it stands in the caller's places of 16 bits (no heap, fixed memory).
+// The steps are no generic functions with those of the crates search and read_chain: what is written for a number differs, those pause and
+// keep their queue's ends in the slice, and the chain is written forwards there: one function with closures for all that is no plainer.
 #![tactic(auto)]
 
 ghost use Rattle.std.specs.Prelude.{◌≡◌, List, map, ◌++◌, ℕ, suc, ◌+◌, ◌*◌, ◌≤◌, ◌<◌, length, get_or, drop};
@@ -13,16 +16,18 @@ ghost use Rattle.search_from.specs.Queue.{leading, LeadingBelow};
 ghost use Rattle.search_from.specs.Work.{long_in, before_in, Exploring, AfterEntry, Explored, Added};
 ghost use Rattle.search_from.specs.Listing.{Lists};
 
+use refusal::Refusal;
+
 // How many places are lent: for a search over few edges, and over as many as a bundle can have.
 pub const FEW_PLACES: usize = 6 * chain::FEW_EDGES + 3;
 
 pub const PLACES: usize = 6 * bundle::EDGES + 3;
 
-// The answer: how many names the chain has, 0 where there is none, and of how many names the edges were followed; or a refusal.
+// The answer: how many names the chain has, 0 where there is none, and of how many names the edges were followed.
 #[derive(Clone, Copy)]
-pub enum Listing {
-    Listed(usize, usize),
-    Refused(u8),
+pub struct Listed {
+    pub names: usize,
+    pub followed: usize,
 }
 
 // Marks the number `y`, unless it is marked: it becomes entry `n` of the queue, with a chain of `long` names on which `x` stands before
@@ -79,6 +84,7 @@ fn explore(edges: &[u16], count: usize, from: usize, to: usize, work: &mut [u16]
     work[1] = from as u16;
     let mut n = 1;
     let mut head = 0;
+    // No `for`: the queue grows while it is gone through.
     while head < n {
         n = follow(edges, count, to, head, n, work);
         head += 1;
@@ -97,23 +103,24 @@ fn fill(edges: &[u16], count: usize, x: usize, n: usize, work: &[u16], list: &mu
 {
     let names = 5 * count + 1 + chain::BUCKETS;
     let mut y = x;
-    let mut i = n;
-    while 0 < i {
-        i -= 1;
+    for i in (0..n).rev() {
         list[i] = edges[names + 2 * y];
         y = work[3 * y + 2] as usize;
     }
 }
 
 // The chain from a name to itself.
-fn alone(name: u16, list: &mut [u16]) -> Listing
+fn alone(name: u16, list: &mut [u16]) -> Result<Listed, Refusal>
     ensures { (count : ℕ) (edges : List ℕ) → Lists (turned 1 (named count edges)) name name list.old list.new result }
 {
-    if list.len() == 0 {
-        return Listing::Refused(9);
+    if list.is_empty() {
+        return Err(Refusal::NoRoom);
     }
     list[0] = name;
-    Listing::Listed(1, 0)
+    Ok(Listed {
+        names: 1,
+        followed: 0,
+    })
 }
 
 // The chain from `from` to `to` over `count` prepared edges, each turned round, into the first places of the list if it fits. Every place
@@ -125,7 +132,7 @@ pub fn find(
     to: u16,
     work: &mut [u16],
     list: &mut [u16],
-) -> Listing
+) -> Result<Listed, Refusal>
     requires { Indexed count edges.now × (6 * count + 3 ≤ length work.old) × ((i : ℕ) → get_or work.old i 0 ≡ 0) }
     ensures { Lists (turned 1 (named count edges.now)) from to list.old list.new result }
 {
@@ -134,16 +141,19 @@ pub fn find(
     }
     let m = edges[0] as usize;
     let names = 5 * count + 1;
-    let x = table::place_of(edges, names, chain::BUCKETS, m, from);
-    if m <= x {
-        return Listing::Listed(0, 1);
-    }
-    let y = table::place_of(edges, names, chain::BUCKETS, m, to);
+    let Some(x) = table::place_of::<{ chain::BUCKETS }>(edges, names, m, from) else {
+        return Ok(Listed {
+            names: 0,
+            followed: 1,
+        });
+    };
+    // A name that no edge has gets the number behind the last, so that the search needs no second test.
+    let y = table::place_of::<{ chain::BUCKETS }>(edges, names, m, to).unwrap_or(m);
     let followed = explore(edges, count, x, y, work);
     let n = work[3 * y] as usize;
     if list.len() < n {
-        return Listing::Refused(9);
+        return Err(Refusal::NoRoom);
     }
     fill(edges, count, y, n, work, list);
-    Listing::Listed(n, followed)
+    Ok(Listed { names: n, followed })
 }

@@ -1,4 +1,5 @@
 -- The records of a type are tested one by one, with one answer kept for each definition.
+use Rattle.std.specs.Prelude.{Err, None, Ok, Option, Some}
 use Prim.Native.Nat.{ℕ, suc, ◌+◌, ◌-◌, ◌≤◌, ◌<◌}
 use native.Mathlib.Omega.{arith}
 use mathlib.Core.Bool.{Bool, true, false, not, ◌||◌}
@@ -17,32 +18,31 @@ use Rattle.meaning.specs.ReadType.{read_ty}
 use Rattle.meaning.specs.Sizes.{named_size_depends, inline_size_depends, contains_jagged_array}
 use Rattle.meaning.proofs.Circle.{resolve_below, settled_zero, settled_step, settled_of}
 use Rattle.meaning.proofs.Sizes.{named_test, jagged_test, answer_equation}
-use Rattle.bundle.specs.declared.Step.TheVariants.{Next, Refused}
+use Rattle.refusal.specs.declared.Refusal.{Refusal}
 use Rattle.bundle.specs.View.{step_of, Reads}
 use Rattle.bundle.specs.Definitions.{type_at, bundle_of, Table}
 use Rattle.bundle.proofs.Trees.{refused_no}
 use Rattle.bundle.proofs.LookupLaws.{placed_type, found_none}
 use Rattle.scan.specs.Parts.{Part, lead, type_parts, lead_names, is_lead}
-use Rattle.scan.specs.Scan.{record_name, part_at, Run, Records, lead_to, stops, from_stop, NextStop}
+use Rattle.scan.specs.Scan.{record_name, part_at, Run, Records, lead_to, stops, from_stop, NextStop, asks_sizes, asks_jagged}
+use Rattle.scan.specs.declared.Walk.{Walk}
 use Rattle.scan.proofs.ScanLaws.{unique, run_none, First, first, Lead, first_lead, leading, from_names}
 use Rattle.scan.proofs.Flat.{type_flat}
 use Rattle.scan.proofs.PartLaws.{names_append}
 use Rattle.scan.proofs.Walks.{resolve_append, lead_none, lead_one, definition_flat, definition_lead}
 use Rattle.sizes.specs.Tests.{named_of, known, named_holds, answer_at, Kept, Acyclic, definition_size_depends}
-use Rattle.size_tests.specs.Scans.{inline_holds, some_counts, Ready, ToTest, Rest, HeadTested, mark_of}
-use Rattle.size_tests.specs.declared.Head.{Head}
-use Rattle.size_tests.specs.declared.Head.TheVariants.{Holds, From}
+use Rattle.size_tests.specs.Scans.{inline_holds, some_counts, Ready, ToTest, Rest}
 use Rattle.size_tests.proofs.CountLaws.{inline_counts, stop_counts, from_counts, counts_more, counts_none}
 
 -- the definitions that are tested next may be said in another way, and answers may be known by then
-ready_same : {s : List ℕ} {j : Bool} {left : ℕ} {ds es kept : List ℕ} → ds ≡ es → Ready s j left ds kept → Ready s j left es kept
+ready_same : {s : List ℕ} {j : Bool} {left : ℕ} {ds es : List ℕ} {kept : List (Option Bool)} → ds ≡ es → Ready s j left ds kept → Ready s j left es kept
 ready_same {s} {j} {left} {ds} {es} {kept} e g = subst (λ xs. Ready s j left xs kept) e g
 
-ready_behind : {s : List ℕ} {j : Bool} {left i : ℕ} {ds kept after : List ℕ} → Ready s j left (i ∷ ds) kept → Kept s j after → Ready s j left ds after
+ready_behind : {s : List ℕ} {j : Bool} {left i : ℕ} {ds : List ℕ} {kept after : List (Option Bool)} → Ready s j left (i ∷ ds) kept → Kept s j after → Ready s j left ds after
 ready_behind {i = i} g k = record { ends = g.ends; within = λ x m. g.within x (Memᴰ.append_right (i ∷ []) m); keeps = k }
 
 -- the records of a run from `at` to `end` are tested, and none of those before `next` has made the test hold
-pub record Testing (s : List ℕ) (j : Bool) (left at end : ℕ) (kept : List ℕ) (next : ℕ) : Type 0 where
+pub record Testing (s : List ℕ) (j : Bool) (left at end : ℕ) (kept : List (Option Bool)) (next : ℕ) : Type 0 where
   pub bound : end ≤ length s
   pub parts : List Part
   pub run : Run s end next parts
@@ -54,9 +54,15 @@ pub record Testing (s : List ℕ) (j : Bool) (left at end : ℕ) (kept : List �
 onward : (s : List ℕ) (j : Bool) (ps : List Part) → lead_to s ps ≡ lead_to s (from_stop (not j) j ps)
 onward s j ps = sym (ap (resolve (bundle_of s)) (from_names (not j) j ps))
 
-pub testing_start : {s : List ℕ} {j : Bool} {left at end : ℕ} {kept : List ℕ} {next : ℕ} → ToTest s j left at end kept → NextStop s at end (not j) j next → Testing s j left at end kept next
-testing_start {s} {j} {left} {at} {end} g l =
+-- where a walk for a test stops
+stopped : {s : List ℕ} {j : Bool} {at end next : ℕ} (w : Walk) → (asks_sizes w ≡ not j) × (asks_jagged w ≡ j) → NextStop s at end (asks_sizes w) (asks_jagged w) next → NextStop s at end (not j) j next
+stopped {s} {j} {at} {end} {next} w a l = subst (λ y. NextStop s at end (not j) y next) a.1 (subst (λ x. NextStop s at end x (asks_jagged w) next) a.0 l)
+
+pub testing_start : {s : List ℕ} {j : Bool} {left at end : ℕ} {kept : List (Option Bool)} {next : ℕ} (w : Walk) → ToTest s j left at end kept → (asks_sizes w ≡ not j) × (asks_jagged w ≡ j) → NextStop s at end (asks_sizes w) (asks_jagged w) next
+    → Testing s j left at end kept next
+testing_start {s} {j} {left} {at} {end} w g a n =
     let r = g.records in
+    let l = stopped w a n in
     record {
       bound = r.bound;
       parts = from_stop (not j) j r.parts;
@@ -66,7 +72,7 @@ testing_start {s} {j} {left} {at} {end} g l =
       stop = l.stop;
     }
 
-module _ {s : List ℕ} {j : Bool} {left at end : ℕ} {kept : List ℕ} {next : ℕ} (t : Testing s j left at end kept next) where
+module _ {s : List ℕ} {j : Bool} {left at end : ℕ} {kept : List (Option Bool)} {next : ℕ} (t : Testing s j left at end kept next) where
   pub testing_end : end ≤ next → (ps : List Part) → Run s end at ps → false ≡ some_counts j s ps
   testing_end h ps a = sym (t.some ps a ∙ ap (some_counts j s) (run_none s end next t.parts t.run h) ∙ counts_none j s)
 
@@ -103,11 +109,11 @@ module _ {s : List ℕ} {j : Bool} {left at end : ℕ} {kept : List ℕ} {next :
         split : some_counts j s t.parts ≡ (answer_at j s i || some_counts j s led.rest)
         split = ap (some_counts j s) led.is ∙ counts_more j s (lead (record_name s next)) led.rest ∙ ap (◌|| some_counts j s led.rest) (equation j t.ready.ends ∙ ap (answer_at j s) (sym is))
 
-        one : i < n → lead_to s t.parts ≡ i ∷ lead_to s led.rest
-        one l = ap (lead_to s) led.is ∙ lead_one s (record_name s next) led.rest is (omega (arith, tb.count))
+        one : i < count (bundle_of s) → lead_to s t.parts ≡ i ∷ lead_to s led.rest
+        one l = ap (lead_to s) led.is ∙ lead_one s (record_name s next) led.rest is l
 
         -- which is tested next
-        pub testing_inside : i < n → Ready s j left (i ∷ []) kept
+        pub testing_inside : i < count (bundle_of s) → Ready s j left (i ∷ []) kept
         testing_inside l =
             let g = ready_same (one l) t.ready in
             record { ends = g.ends; within = λ y m. g.within y (Memᴰ.head (Memᴰ.eq_of_singleton m)); keeps = g.keeps }
@@ -116,8 +122,11 @@ module _ {s : List ℕ} {j : Bool} {left at end : ℕ} {kept : List ℕ} {next :
         pub testing_yes : {v : Bool} → v ≡ answer_at j s i → v ≡ true → (ps : List Part) → Run s end at ps → true ≡ some_counts j s ps
         testing_yes a b ps w = sym (t.some ps w ∙ split ∙ rw (sym a ∙ b))
 
-        module _ {after : ℕ} (l : NextStop s (next + 3) end (not j) j after) where
-          testing_on : {kept' : List ℕ} → answer_at j s i ≡ false → Ready s j left (lead_to s led.rest) kept' → Testing s j left at end kept' after
+        module _ {after : ℕ} (w : Walk) (asks : (asks_sizes w ≡ not j) × (asks_jagged w ≡ j)) (stops_at : NextStop s (next + 3) end (asks_sizes w) (asks_jagged w) after) where
+          l : NextStop s (next + 3) end (not j) j after
+          l = stopped w asks stops_at
+
+          testing_on : {kept' : List (Option Bool)} → answer_at j s i ≡ false → Ready s j left (lead_to s led.rest) kept' → Testing s j left at end kept' after
           testing_on a g = record {
             bound = t.bound;
             parts = from_stop (not j) j led.rest;
@@ -128,21 +137,21 @@ module _ {s : List ℕ} {j : Bool} {left at end : ℕ} {kept : List ℕ} {next :
           }
 
           -- it does not
-          pub testing_next : {v : Bool} {kept' : List ℕ} → i < n → v ≡ answer_at j s i → v ≡ false → Kept s j kept' → Testing s j left at end kept' after
+          pub testing_next : {v : Bool} {kept' : List (Option Bool)} → i < count (bundle_of s) → v ≡ answer_at j s i → v ≡ false → Kept s j kept' → Testing s j left at end kept' after
           testing_next m a b k = testing_on (sym a ∙ b) (ready_behind (ready_same (one m) t.ready) k)
 
           -- there is none
-          none_is : n ≤ i → answer_at j s (definition_of (bundle_of s) (record_name s next)) ≡ false
+          none_is : count (bundle_of s) ≤ i → answer_at j s (definition_of (bundle_of s) (record_name s next)) ≡ false
           unfolding answer_at find_type
-          none_is m = ap (holds (named_holds j s)) (found_none tb i (record_name s next) is m)
+          none_is m = ap (holds (named_holds j s)) (found_none tb i (record_name s next) is (omega (arith, m, tb.count)))
 
-          pub testing_past : n ≤ i → Testing s j left at end kept after
+          pub testing_past : count (bundle_of s) ≤ i → Testing s j left at end kept after
           testing_past m =
               testing_on (ap (answer_at j s) is ∙ none_is m)
-              (ready_same (ap (lead_to s) led.is ∙ lead_none s (record_name s next) led.rest is (omega (arith, tb.count))) t.ready)
+              (ready_same (ap (lead_to s) led.is ∙ lead_none s (record_name s next) led.rest is m) t.ready)
 
 -- definition i
-module _ {s : List ℕ} {n : ℕ} {places : List ℕ} (tb : Table s n places) {j : Bool} {left i : ℕ} {kept : List ℕ} (h : i < n) (g : Ready s j left (i ∷ []) kept) where
+module _ {s : List ℕ} {n : ℕ} {places : List ℕ} (tb : Table s n places) {j : Bool} {left i : ℕ} {kept : List (Option Bool)} (h : i < n) (g : Ready s j left (i ∷ []) kept) where
   pub place_below : i < 256
   place_below = omega (arith, tb.count, tb.placed.room)
 
@@ -155,12 +164,8 @@ module _ {s : List ℕ} {n : ℕ} {places : List ℕ} (tb : Table s n places) {j
   definition_answer = sym (ap (holds (named_holds j s)) (placed_type tb i h))
 
   -- its own record says that its test holds
-  module _ {r : Head} (t : HeadTested s j (get_or places i 0) (get_or places (i + 1) 0 - 3) r) where
-    pub definition_holds : r ≡ Holds → true ≡ answer_at j s i
-    definition_holds e = sym (rw e at t) ∙ definition_answer
-
-    pub definition_rest : {p : ℕ} → r ≡ From p → Rest s j (get_or places i 0) (get_or places (i + 1) 0 - 3) p
-    definition_rest e = rw e at t
+  pub definition_holds : named_holds j s (type_at 24 s (get_or places i 0)) ≡ true → true ≡ answer_at j s i
+  definition_holds t = sym t ∙ definition_answer
 
   module _ {p : ℕ} (r : Rest s j (get_or places i 0) (get_or places (i + 1) 0 - 3) p) where
     -- its records from p on are tested next
@@ -186,35 +191,29 @@ module _ {s : List ℕ} {n : ℕ} {places : List ℕ} (tb : Table s n places) {j
     pub definition_tested : {v : Bool} → ((ps : List Part) → Run s (get_or places (i + 1) 0 - 3) p ps → v ≡ some_counts j s ps) → v ≡ answer_at j s i
     definition_tested f = f r.parts r.run ∙ sym r.is ∙ definition_answer
 
-  module _ {after : List ℕ} (k : Kept s j after) (v : Bool) (m : ℕ) (p : v ≡ answer_at j s i) (q : m ≡ mark_of v) where
+  module _ {after : List (Option Bool)} (k : Kept s j after) {v : Bool} (p : v ≡ answer_at j s i) where
     below : i < length after
     below = omega (arith, k.size, tb.count, tb.placed.room)
 
     -- what stands at x now
-    now_at : (x : ℕ) → ((x ≡ i) × (get_or (set after i m) x 0 ≡ m)) ⊎ (get_or (set after i m) x 0 ≡ get_or after x 0)
+    now_at : (x : ℕ) → ((x ≡ i) × (get_or (set after i (Some v)) x None ≡ Some v)) ⊎ (get_or (set after i (Some v)) x None ≡ get_or after x None)
     now_at x = go (eqb x i) refl
       where
-        go : (b : Bool) → eqb x i ≡ b → ((x ≡ i) × (get_or (set after i m) x 0 ≡ m)) ⊎ (get_or (set after i m) x 0 ≡ get_or after x 0)
-        go true e = let h : x ≡ i = eqb-true x i e in inl (h, rw h (get_or-set_same after i m 0 below))
-        go false e = inr (get_or-set_other after i x m 0 (eqb-false x i e))
+        go : (b : Bool) → eqb x i ≡ b → ((x ≡ i) × (get_or (set after i (Some v)) x None ≡ Some v)) ⊎ (get_or (set after i (Some v)) x None ≡ get_or after x None)
+        go true e = let h : x ≡ i = eqb-true x i e in inl (h, rw h (get_or-set_same after i (Some v) None below))
+        go false e = inr (get_or-set_other after i x (Some v) None (eqb-false x i e))
 
-    pub definition_kept : Kept s j (set after i m)
+    pub definition_kept : Kept s j (set after i (Some v))
     definition_kept = record {
-      size = length-set after i m ∙ k.size;
-      no = λ x e. ⊎_elim (λ w. ap (answer_at j s) w.0 ∙ sym p ∙ not_marked v (sym q ∙ sym w.1 ∙ e)) (λ w. k.no x (sym w ∙ e)) (now_at x);
-      yes = λ x e. ⊎_elim (λ w. ap (answer_at j s) w.0 ∙ sym p ∙ marked v (sym q ∙ sym w.1 ∙ e)) (λ w. k.yes x (sym w ∙ e)) (now_at x);
+      size = length-set after i (Some v) ∙ k.size;
+      answers = λ x holds e. ⊎_elim (λ w. ap (answer_at j s) w.0 ∙ sym p ∙ same (sym w.1 ∙ e)) (λ w. k.answers x holds (sym w ∙ e)) (now_at x);
     }
       where
-        not_marked : (v : Bool) → mark_of v ≡ 1 → v ≡ false
-        not_marked true e = absurd (omega arith)
-        not_marked false e = refl
-
-        marked : (v : Bool) → mark_of v ≡ 2 → v ≡ true
-        marked true e = refl
-        marked false e = absurd (omega arith)
+        same : {v w : Bool} → ◌≡◌ {A = Option Bool} (Some v) (Some w) → v ≡ w
+        same e = cc
 
 -- In a bundle in which nothing circles, as many steps as there are definitions are enough.
-module _ {s : List ℕ} {n : ℕ} {places : List ℕ} (tb : Table s n places) (a : Acyclic s) (j : Bool) {kept : List ℕ} (k : Kept s j kept) where
+module _ {s : List ℕ} {n : ℕ} {places : List ℕ} (tb : Table s n places) (a : Acyclic s) (j : Bool) {kept : List (Option Bool)} (k : Kept s j kept) where
   ready_by : (ds : List ℕ) → ((i : ℕ) → Memᴰ i ds → i < count (bundle_of s)) → Ready s j n ds kept
   ready_by ds below = record {
     ends = a.ends;
@@ -226,7 +225,7 @@ module _ {s : List ℕ} {n : ℕ} {places : List ℕ} (tb : Table s n places) (a
   ready_definition i h = ready_by (i ∷ []) (λ x m. rw (Memᴰ.eq_of_singleton m) (omega (arith, tb.count)))
 
   -- a type that was read from `at` to `end`
-  module _ (d at : ℕ) {end : ℕ} (e : Next end ≡ step_of (read_ty d s at)) where
+  module _ (d at : ℕ) {end : ℕ} (e : Ok end ≡ step_of (read_ty d s at)) where
     pub type_ready : ToTest s j n at end kept
     type_ready =
         let f = type_flat s d at end e in
@@ -239,7 +238,7 @@ module _ {s : List ℕ} {n : ℕ} {places : List ℕ} (tb : Table s n places) (a
     type_tested f = f (type_parts (type_at d s at)) (type_flat s d at end e).run ∙ inline_counts j s (type_at d s at)
 
 -- what was read is not refused
-pub type_no : (d at k : ℕ) (s : List ℕ) → Reads (read_ty d s at) → Refused k ≡ step_of (read_ty d s at) → ⊥
+pub type_no : (d at : ℕ) (k : Refusal) (s : List ℕ) → Reads (read_ty d s at) → Err k ≡ step_of (read_ty d s at) → ⊥
 type_no d at k s r e = refused_no (read_ty d s at) k r (sym e)
 
 -- what the answers mean

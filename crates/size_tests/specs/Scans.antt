@@ -1,5 +1,5 @@
 -- The size test and the jagged test as scans over the records of a type.
-use Rattle.std.specs.Prelude.{ℕ, Bool, true, false, not, ◌&&◌, ◌≡◌, eqb}
+use Rattle.std.specs.Prelude.{ℕ, Bool, true, false, not, ◌&&◌, ◌≡◌, eqb, Option, Some, None}
 use mathlib.Core.List.{List, ◌++◌, Memᴰ}
 use Rattle.meaning.specs.Circle.{settled, circles}
 use Rattle.meaning.specs.Lists.{any}
@@ -9,8 +9,13 @@ use Rattle.bundle.specs.Definitions.{type_at, bundle_of}
 use Rattle.scan.specs.Parts.{Part, other, lead, reference, arrayed, sized, type_parts}
 use Rattle.scan.specs.Scan.{Run, Records, lead_to}
 use Rattle.sizes.specs.Tests.{known, named_holds, Kept}
-use Rattle.size_tests.specs.declared.Head.{Head}
-use Rattle.size_tests.specs.declared.Head.TheVariants.{Holds, From}
+use Rattle.size_tests.specs.declared.TestOf.{TestOf}
+use Rattle.size_tests.specs.declared.TestOf.TheVariants.{Size, Jagged}
+
+-- whether it is the test for jagged arrays, and not that of the size
+abbrev pub is_jagged : TestOf → Bool
+is_jagged Size = false
+is_jagged Jagged = true
 
 -- the test of a type that is written inline: for jagged arrays, or of the size
 abbrev pub inline_of : Bool → Test
@@ -34,13 +39,13 @@ unfoldable pub some_counts : Bool → List ℕ → List Part → Bool
 some_counts jagged s ps = any (counts jagged (known jagged s)) ps
 
 -- the definitions ds are tested next, each settled within `left` steps
-pub record Ready (s : List ℕ) (jagged : Bool) (left : ℕ) (ds kept : List ℕ) : Type 0 where
+pub record Ready (s : List ℕ) (jagged : Bool) (left : ℕ) (ds : List ℕ) (kept : List (Option Bool)) : Type 0 where
   pub ends : circles (bundle_of s) ≡ false
   pub within : (i : ℕ) → Memᴰ i ds → settled (bundle_of s) left i ≡ true
   pub keeps : Kept s jagged kept
 
 -- the records from `at` to `end` can be tested
-pub record ToTest (s : List ℕ) (jagged : Bool) (left at end : ℕ) (kept : List ℕ) : Type 0 where
+pub record ToTest (s : List ℕ) (jagged : Bool) (left at end : ℕ) (kept : List (Option Bool)) : Type 0 where
   pub records : Records s at end
   pub ready : Ready s jagged left (lead_to s records.parts) kept
 
@@ -53,11 +58,6 @@ pub record Rest (s : List ℕ) (jagged : Bool) (at end p : ℕ) : Type 0 where
   pub is : named_holds jagged s (type_at 24 s at) ≡ some_counts jagged s parts
 
 -- what a definition's own record says, with the tag or size behind it
-abbrev pub HeadTested : List ℕ → Bool → ℕ → ℕ → Head → Type 0
-HeadTested s jagged at end Holds = named_holds jagged s (type_at 24 s at) ≡ true
-HeadTested s jagged at end (From p) = Rest s jagged at end p
-
--- how an answer is kept
-abbrev pub mark_of : Bool → ℕ
-mark_of true = 2
-mark_of false = 1
+abbrev pub HeadTested : List ℕ → Bool → ℕ → ℕ → Option ℕ → Type 0
+HeadTested s jagged at end None = named_holds jagged s (type_at 24 s at) ≡ true
+HeadTested s jagged at end (Some p) = Rest s jagged at end p

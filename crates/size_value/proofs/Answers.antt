@@ -1,12 +1,14 @@
 -- The answers of the call, each in the form in which the code returns it.
+use Rattle.std.specs.Prelude.{Err}
+use Rattle.refusal.specs.declared.Refusal.{Refusal}
+use Rattle.refusal.specs.declared.Refusal.TheVariants.{Varies}
+use Rattle.refusal.specs.Numbers.{number}
 use Prim.Native.Nat.{ℕ, ◌+◌, ◌-◌, ◌≤◌, ◌<◌}
 use native.Mathlib.Omega.{arith}
 use mathlib.Core.Bool.{Bool, true, false, cond}
-use mathlib.Core.List.{List, [], ◌∷◌}
+use mathlib.Core.List.{List, []}
 use mathlib.Core.Option.{some}
 use mathlib.Core.Path.{◌≡◌, refl, sym, ap, subst, ◌∙◌}
-use types.Run.{OneOf, miss}
-use denote.Enum.Declared.{tag_of}
 use lib.ListN.{length, get_or}
 use Rattle.meaning.specs.Calls.{Outcome, result, refusal, due_of, on_bundle}
 use Rattle.meaning.specs.Circle.{circles}
@@ -25,7 +27,6 @@ use Rattle.bundle.specs.Definitions.{bundle_of, zero_group, Table}
 use Rattle.bundle.specs.Definitions as bundles
 use Rattle.bundle.specs.Expressions.{expr_at}
 use Rattle.bundle.specs.Opened.{LayoutOf}
-use Rattle.bundle.specs.contracts.TypeForm.{the_type}
 use Rattle.bundle.proofs.ExprLaws.{Opened}
 use Rattle.bundle.proofs.LookupLaws.{placed_type}
 use Rattle.bundle.proofs.Parts.{enum_at, array_at}
@@ -34,19 +35,18 @@ use Rattle.bundle.proofs.TypeTrees.{primitive_tree, type_ref_tree, struct_tree, 
 use Rattle.fixed_meaning.specs.Value.{Value, unvalued, value_of}
 use Rattle.fixed_meaning.specs.Valuing.{array_value, value_due, valuing}
 use Rattle.fixed_meaning.proofs.Within.{no_definition}
-use Rattle.values.specs.declared.Valued.TheVariants.{Refused}
 use Rattle.values.specs.Meant.{value_meant}
 
 -- a type that was read
 module _ {d at : ℕ} {s : List ℕ} {f : Form} (o : Opened d at s f) (r : Reads (read_ty d s at)) where
-  pub not_array : (t : TypeForm) → f ≡ OfType (type_form_meant t) → OneOf (0 ∷ 1 ∷ 2 ∷ 3 ∷ 4 ∷ 6 ∷ []) (tag_of the_type t) → value_meant (Refused 11) ≡ array_value (some (bundles.type_at d s at))
+  pub not_array : (t : TypeForm) → f ≡ OfType (type_form_meant t) → (t ≡ code.Array → ⊥) → value_meant (Err Varies) ≡ array_value (some (bundles.type_at d s at))
   unfolding type_form_meant value_meant array_value
   not_array code.Primitive p k = rw (primitive_tree o r p)
   not_array code.TypeRef p k = rw (type_ref_tree o r p)
   not_array code.Struct p k = rw (struct_tree o r zero_group p)
   not_array code.Union p k = rw (union_tree o r zero_group p)
   not_array code.Enum p k = rw (enum_at o r p).parts.tree
-  not_array code.Array p k = absurd (miss (0 ∷ 1 ∷ 2 ∷ 3 ∷ 4 ∷ 6 ∷ []) 5 tt k)
+  not_array code.Array p k = absurd (k refl)
   not_array code.SizeUnion p k = rw (size_union_tree o r zero_group p)
 
   module _ (p : f ≡ OfType Array) where
@@ -62,7 +62,7 @@ module _ {d at : ℕ} {s : List ℕ} {f : Form} (o : Opened d at s f) (r : Reads
 
 -- definition i of an opened bundle
 module _ {s : List ℕ} {n : ℕ} {places : List ℕ} (tb : Table s n places) (i : ℕ) where
-  pub opened_none : n ≤ i → value_meant (Refused 11) ≡ array_value (type_at (bundle_of s) i)
+  pub opened_none : n ≤ i → value_meant (Err Varies) ≡ array_value (type_at (bundle_of s) i)
   unfolding value_meant array_value
   opened_none h = sym (ap array_value (no_definition (bundle_of s) i (omega (arith, tb.count))))
 
@@ -74,14 +74,14 @@ pub opened_call : {s : List ℕ} (i : ℕ) {l : Layout} {places : List ℕ} {v :
 unfolding valuing value_due
 opened_call i o w = w ∙ sym (rw (o.0.read, o.1))
 
-pub refused_call : (i : ℕ) (s : List ℕ) (k : ℕ) → ((f : Bundle → Outcome) → on_bundle f s ≡ refusal k) → value_meant (Refused k) ≡ valuing i s
+pub refused_call : (i : ℕ) (s : List ℕ) (r : Refusal) → ((f : Bundle → Outcome) → on_bundle f s ≡ refusal (number r)) → value_meant (Err r) ≡ valuing i s
 unfolding valuing value_due value_meant on_bundle due_of
-refused_call i s k e = go (read_bundle s) (e (λ b. result []))
+refused_call i s r e = go (read_bundle s) (e (λ b. result []))
   where
-    circled : (b : Bundle) (t : Bool) → cond t (refusal 8) (result []) ≡ refusal k → unvalued k ≡ cond t (unvalued 8) (array_value (type_at b i))
-    circled b true q = let z : 8 ≡ k = cc in rw z refl
+    circled : (b : Bundle) (t : Bool) → cond t (refusal 8) (result []) ≡ refusal (number r) → unvalued (number r) ≡ cond t (unvalued 8) (array_value (type_at b i))
+    circled b true q = let z : 8 ≡ number r = cc in rw z refl
     circled b false q = let z : ◌≡◌ {A = ℕ} 0 1 = cc in absurd (omega arith)
 
-    go : (x : Read Bundle) → due_of (λ b. result []) x ≡ refusal k → unvalued k ≡ value_due (λ b. array_value (type_at b i)) x
+    go : (x : Read Bundle) → due_of (λ b. result []) x ≡ refusal (number r) → unvalued (number r) ≡ value_due (λ b. array_value (type_at b i)) x
     go (ok b n) q = circled b (circles b) q
-    go (refused j) q = let z : j ≡ k = cc in rw z refl
+    go (refused j) q = let z : j ≡ number r = cc in rw z refl

@@ -11,43 +11,39 @@ ghost use Rattle.bundle.specs.Definitions as bundles;
 ghost use Rattle.fixed_meaning.specs.Valuing.{array_value, valuing};
 ghost use Rattle.values.specs.Meant.{value_meant};
 
-use bundle::{Form, Opening, TypeForm};
-use values::Valued;
+use bundle::{Form, TypeForm};
+use refusal::Refusal;
 
 // The value of the size of the type that was read at `at`, where it is an array.
-fn array_value(s: &[u8], at: usize) -> Valued
+fn array_value(s: &[u8], at: usize) -> Result<i64, Refusal>
     requires { Reads (read_ty 24 s.now at) }
     ensures { value_meant result ≡ array_value (some (bundles.type_at 24 s.now at)) }
 {
-    let form = bundle::form_of(s[at]);
-    let Form::OfType(t) = form else {
-        return Valued::Refused(11);
+    let Form::OfType(t) = bundle::form_of(s[at]) else {
+        return Err(Refusal::Varies);
     };
     let TypeForm::Array = t else {
-        return Valued::Refused(11);
+        return Err(Refusal::Varies);
     };
     evaluate::value_of(s, at + 11, bundle::DEPTH_INSIDE)
 }
 
 // The answer for a definition of an opened bundle.
-fn value_opened(s: &[u8], places: &[u16], count: usize, definition: usize) -> Valued
+fn value_opened(s: &[u8], places: &[u16], count: usize, definition: usize) -> Result<i64, Refusal>
     requires { Table s.now count places.now }
     ensures { value_meant result ≡ array_value (type_at (bundle_of s.now) definition) }
 {
     if count <= definition {
-        return Valued::Refused(11);
+        return Err(Refusal::Varies);
     }
     array_value(s, places[definition] as usize)
 }
 
 // The value of the size of definition `definition`, which is an array.
-pub fn size_value(bundle: &[u8], definition: usize) -> Valued
+pub fn size_value(bundle: &[u8], definition: usize) -> Result<i64, Refusal>
     ensures { value_meant result ≡ valuing definition bundle.now }
 {
     let mut places = [0u16; bundle::PLACES];
-    let opening = acceptance::open(bundle, &mut places);
-    match opening {
-        Opening::Opened(layout) => { value_opened(bundle, &places, layout.definitions, definition) }
-        Opening::Refused(k) => Valued::Refused(k),
-    }
+    let layout = acceptance::open(bundle, &mut places)?;
+    value_opened(bundle, &places, layout.definitions, definition)
 }

@@ -2,12 +2,12 @@
 -- which the tree has them.
 --     Flat                   a run of bytes that hands out some paths, whatever follows it
 --     expr_flat, type_flat   the laws: an expression or type that was read is such a run
+use Rattle.std.specs.Prelude.{None, Ok, Option, Some}
 use Prim.Native.Nat.{ℕ, zero, suc, ◌+◌, ◌*◌, ◌≤◌, ◌<◌}
 use native.Mathlib.Omega.{arith}
 use mathlib.Core.Bool.{Bool, true, false, cond, ◌&&◌}
 use mathlib.Core.Path.{◌≡◌, refl, sym, ap, ap₂, subst, ◌∙◌}
 use mathlib.Core.List.{List, [], ◌∷◌, ◌++◌, append_assoc, append-nil, map, map-append}
-use mathlib.Core.Option.{Option, none, some}
 use lib.Dec.{T, leb, leb→le}
 use lib.ListN.{length, length-append, length-map, get_or}
 use Rattle.meaning.specs.Kinds.{Form, Row, row, lookup, kinds, form_of}
@@ -18,7 +18,6 @@ use Rattle.meaning.specs.ReadType.{read_ty}
 use Rattle.meaning.specs.References.{collect_field_references_recursive, collect_field_references_in_type_kind, references_in_members}
 use Rattle.meaning.specs.Tree.{primitive}
 use Rattle.meaning.proofs.Deeper.{type_deeper}
-use Rattle.bundle.specs.declared.Step.TheVariants.{Next}
 use Rattle.bundle.specs.View.{step_of}
 use Rattle.bundle.specs.Definitions.{type_at}
 use Rattle.bundle.specs.Expressions.{expr_at}
@@ -38,8 +37,8 @@ length_names s (suc n) at = ap suc (length_names s n (at + 2))
 
 -- a field reference has a name
 abbrev Named : Option ℕ → Type 0
-Named none = Unit {0}
-Named (some n) = 0 < n
+Named None = Unit {0}
+Named (Some n) = 0 < n
 
 -- each of the rows that could have the kind k says so
 abbrev EachNamed : List Row → ℕ → Type 0
@@ -56,7 +55,7 @@ lookup_named (row lo hi form ∷ rows) k a = go (leb lo k) (leb k hi) refl (look
     go true false p later = later
     go false y p later = later
 
-some_names : (k n : ℕ) → names_in (form_of k) ≡ some n → 0 < n
+some_names : (k n : ℕ) → names_in (form_of k) ≡ Some n → 0 < n
 unfolding names_in
 some_names k n p = subst Named p (lookup_named kinds k (λ l. tt, (λ l. omega arith, (λ l. tt, (λ l. tt, (λ l. tt, (λ l. tt, (λ l. tt, (λ l. tt, (λ l. tt, (λ l. tt, (λ l. tt, (λ l. tt, (λ l. tt, (λ l. tt, (λ l. tt, (λ l. tt, (λ l. tt, (λ l. tt, tt)))))))))))))))))))
 
@@ -94,14 +93,14 @@ module _ (s : List ℕ) where
   empty h = record { forward = omega arith; bound = h; places = []; scan = λ end l. refl; are = refl; fits = tt; wide = omega arith }
 
   -- the path of a field reference of n names
-  pub path_is : (at n : ℕ) → names_in (form_at s at) ≡ some n → (path_at s at ≡ names_from s (at + 1) n) × (length (path_at s at) ≡ n)
+  pub path_is : (at n : ℕ) → names_in (form_at s at) ≡ Some n → (path_at s at ≡ names_from s (at + 1) n) × (length (path_at s at) ≡ n)
   unfolding path_at
   path_is at n p = rw p (refl, length_names s n (at + 1))
 
   -- the paths of one record, by its count of names
   abbrev path_of : ℕ → Option ℕ → List (List ℕ)
-  path_of at none = []
-  path_of at (some n) = names_from s (at + 1) n ∷ []
+  path_of at None = []
+  path_of at (Some n) = names_from s (at + 1) n ∷ []
 
   -- one record, which ends at m
   module _ (at m : ℕ) (q : next_at (form_at s at) s at ≡ m) (l : at < m) (b : m ≤ length s) where
@@ -109,15 +108,15 @@ module _ (s : List ℕ) where
     behind t k end h = step s at end (omega arith) (omega (arith, q)) ∙ ap₂ (λ t n. also t at (references_from s n end)) k q
 
     one : (t : Option ℕ) → names_in (form_at s at) ≡ t → Flat at m (path_of at t)
-    one none k = record { forward = omega arith; bound = b; places = []; scan = behind none k; are = refl; fits = tt; wide = omega arith }
-    one (some n) k =
+    one None k = record { forward = omega arith; bound = b; places = []; scan = behind None k; are = refl; fits = tt; wide = omega arith }
+    one (Some n) k =
         let i = path_is at n k in
         let e = names_end s (form_at s at) at n k in
         record {
           forward = omega arith;
           bound = b;
           places = at ∷ [];
-          scan = behind (some n) k;
+          scan = behind (Some n) k;
           are = ap (◌∷ []) i.0;
           fits = (omega (arith, i.1, e, q), tt);
           wide = omega (arith, some_names (get_or s at 0) n k, e, q);
@@ -160,15 +159,15 @@ module _ (s : List ℕ) where
     size_union_is = λ d at i m a ms l p e q g.
         let x = type_deeper d depth_limit l s at _ m (ended_ok (read_ty d s at) m (primitive 0) e) in
         let u : next_at (form_at s at) s at ≡ m = rw p (union_next s at m (rw x)) in
-        one at m u (type_forward s d at m e) g.bound none (ap names_in p);
+        one at m u (type_forward s d at m e) g.bound None (ap names_in p);
   }
 
   -- what was read is such a run
-  pub expr_flat : (d at m : ℕ) → Next m ≡ step_of (read_expr d s at) → Flat at m (collect_field_references_recursive (expr_at d s at))
+  pub expr_flat : (d at m : ℕ) → Ok m ≡ step_of (read_expr d s at) → Flat at m (collect_field_references_recursive (expr_at d s at))
   unfolding paths
   expr_flat d at m e = runs.expr_flat paths d at m e
 
-  pub type_flat : (d : ℕ) → d ≤ depth_limit → (at m : ℕ) → Next m ≡ step_of (read_ty d s at) → Flat at m (collect_field_references_in_type_kind (type_at d s at))
+  pub type_flat : (d : ℕ) → d ≤ depth_limit → (at m : ℕ) → Ok m ≡ step_of (read_ty d s at) → Flat at m (collect_field_references_in_type_kind (type_at d s at))
   unfolding paths
   type_flat d l at m e = runs.type_flat paths d l at m e
 

@@ -1,50 +1,57 @@
 -- What one turn of a scan for field references does, by the form of the record that it meets.
+use Rattle.std.specs.Prelude.{None, Option, Some, is_some}
 use Prim.Native.Nat.{ℕ, ◌-◌, ◌≤◌, ◌<◌}
 use native.Mathlib.Omega.{arith}
-use mathlib.Core.Option.{Option, none, some}
+use mathlib.Core.Bool.{true, false, false≢true}
 use mathlib.Core.Path.{◌≡◌, refl, sym, ap, ◌∙◌}
-use mathlib.Core.List.{List, [], ◌∷◌}
-use types.Run.{OneOf, miss}
-use denote.Enum.Declared.{tag_of}
+use mathlib.Core.List.{List}
 use Rattle.meaning.specs.Kinds as kinds
 use Rattle.bundle.specs.declared.Form.{Form}
 use Rattle.bundle.specs.declared.Form.TheVariants.{OfExpr, OfType, OfMember, OfRecord, Unknown}
-use Rattle.bundle.specs.View.{form_meant}
-use Rattle.bundle.specs.contracts.Form.{the_type}
+use Rattle.bundle.specs.declared.ExprForm.{ExprForm}
+use Rattle.bundle.specs.declared.ExprForm.TheVariants.{Literal, FieldRef, Sizeof, Alignof, Binary, Unary}
+use Rattle.bundle.specs.View.{form_meant, expr_form_meant}
 use Rattle.scan.specs.Scan.{form_at}
-use Rattle.sizes.specs.declared.Found.TheVariants.{At, Nothing}
-use Rattle.sizes.specs.declared.Names.TheVariants.{Of, No}
-use Rattle.sizes.specs.Scan.{also, next_at, names_in, names_of, references_from, found_of}
+use Rattle.sizes.specs.Scan.{also, next_at, names_in, references_from, found_of}
 use Rattle.sizes.proofs.ScanLaws.{step, nothing_left, record_forward}
 
--- a form that is no expression's, by the variant's number
-pub no_names : (f : Form) → OneOf (1 ∷ 2 ∷ 3 ∷ 4 ∷ []) (tag_of the_type f) → names_of (names_in (form_meant f)) ≡ No
+-- a form that is no expression's, and an expression's that is no field reference's
+pub no_names : (f : Form) → ((x : ExprForm) → f ≡ OfExpr x → ⊥) → names_in (form_meant f) ≡ None
 unfolding form_meant names_in
-no_names (OfExpr x) o = absurd (miss (1 ∷ 2 ∷ 3 ∷ 4 ∷ []) 0 tt o)
+no_names (OfExpr x) o = absurd (o x refl)
 no_names (OfType x) o = refl
 no_names (OfMember w) o = refl
 no_names (OfRecord x) o = refl
 no_names Unknown o = refl
 
+pub no_reference : (e : ExprForm) → ((n : ℕ) → e ≡ FieldRef n → ⊥) → names_in (form_meant (OfExpr e)) ≡ None
+unfolding form_meant expr_form_meant names_in
+no_reference (Literal w) o = refl
+no_reference (FieldRef n) o = absurd (o n refl)
+no_reference Sizeof o = refl
+no_reference Alignof o = refl
+no_reference Binary o = refl
+no_reference Unary o = refl
+
 -- a record of form f at `at`
 module _ (s : List ℕ) (at end : ℕ) (f : kinds.Form) (e : f ≡ form_at s at) (l : at < end) where
   -- it is a field reference
-  pub step_found : (k : ℕ) → Of k ≡ names_of (names_in f) → found_of (references_from s at end) ≡ At at
-  step_found k q = ap found_of (step s at end l (record_forward s at)) ∙ go (names_in (form_at s at)) (rw (← e) q)
+  pub step_found : is_some (names_in f) ≡ true → found_of (references_from s at end) ≡ Some at
+  step_found q = ap found_of (step s at end l (record_forward s at)) ∙ go (names_in (form_at s at)) (rw (← e) q)
     where
-      go : (x : Option ℕ) → Of k ≡ names_of x → found_of (also x at (references_from s (next_at (form_at s at) s at) end)) ≡ At at
-      go none q = let z : ◌≡◌ {A = ℕ} 0 1 = cc in absurd (omega arith)
-      go (some n) q = refl
+      go : (x : Option ℕ) → is_some x ≡ true → found_of (also x at (references_from s (next_at (form_at s at) s at) end)) ≡ Some at
+      go None q = absurd (false≢true q)
+      go (Some n) q = refl
 
   -- it is another, which ends at m
   module _ (m : ℕ) (p : m ≡ next_at f s at) where
-    pub step_other : No ≡ names_of (names_in f) → references_from s m end ≡ references_from s at end
+    pub step_other : is_some (names_in f) ≡ false → references_from s m end ≡ references_from s at end
     step_other q = sym (step s at end l (record_forward s at) ∙ go (names_in (form_at s at)) (rw (← e) q) ∙ rw (p, e))
       where
-        go : (x : Option ℕ) → No ≡ names_of x
+        go : (x : Option ℕ) → is_some x ≡ false
             → also x at (references_from s (next_at (form_at s at) s at) end) ≡ references_from s (next_at (form_at s at) s at) end
-        go none q = refl
-        go (some n) q = let z : ◌≡◌ {A = ℕ} 0 1 = cc in absurd (omega arith)
+        go None q = refl
+        go (Some n) q = absurd (false≢true (sym q))
 
     pub step_less : end - m < end - at
     step_less =
@@ -52,5 +59,5 @@ module _ (s : List ℕ) (at end : ℕ) (f : kinds.Form) (e : f ≡ form_at s at)
         omega arith
 
 -- no record is left
-pub step_none : (s : List ℕ) (at end : ℕ) → end ≤ at → found_of (references_from s at end) ≡ Nothing
+pub step_none : (s : List ℕ) (at end : ℕ) → end ≤ at → found_of (references_from s at end) ≡ None
 step_none s at end h = ap found_of (nothing_left s at end h)

@@ -1,4 +1,5 @@
 -- The sizes of primitives, and variants that are all primitives of one size.
+use Rattle.std.specs.Prelude.{None, Ok, Some}
 use Prim.Native.Nat.{ℕ, zero, suc, ◌+◌, ◌-◌, ◌≤◌, ◌<◌}
 use native.Mathlib.Nat.{not-suc-le-zero, le_of_suc-le-suc, eq-or-lt_of_le}
 use native.Mathlib.Omega.{arith}
@@ -7,8 +8,6 @@ use mathlib.Core.Logic.{⊎_elim}
 use mathlib.Core.Option.{Option, none as nothing, some}
 use mathlib.Core.Path.{◌≡◌, refl, sym, ap, ◌∙◌}
 use mathlib.Core.List.{List, [], ◌∷◌}
-use types.Run.{OneOf, miss}
-use denote.Enum.Declared.{tag_of}
 use lib.Dec.{T, leb, leb→le, eqb}
 use lib.ListN.{length, get_or}
 use borrow.Author.Tests.{eq-eqb, ne_eqb}
@@ -18,21 +17,18 @@ use Rattle.meaning.specs.Lists.{all, holds}
 use Rattle.meaning.specs.Lookup.{list_of, as_primitive}
 use Rattle.meaning.specs.ReadType.{member_head, read_members, read_ty}
 use Rattle.meaning.specs.Sizes.{get_primitive_size, has_size, one_size, constant_size_variants, is_enum_with_constant_size_variants}
-use Rattle.meaning.specs.Tree.{primitive, Member, member, more}
+use Rattle.meaning.specs.Tree.{Member, member, more}
 use Rattle.bundle.specs.declared.TypeForm.{TypeForm}
 use Rattle.bundle.specs.declared.TypeForm.TheVariants as code
-use Rattle.bundle.specs.declared.Step.TheVariants.{Next}
 use Rattle.bundle.specs.View.{step_of, Reads, value_or, type_form_meant}
 use Rattle.bundle.specs.Definitions.{type_at, members_at, zero_group}
 use Rattle.bundle.proofs.ExprLaws.{Opened}
-use Rattle.bundle.specs.contracts.TypeForm.{the_type}
 use Rattle.bundle.proofs.TypeLaws.{primitive_ends}
 use Rattle.bundle.proofs.TypeTrees.{type_deep, type_there, no_other, primitive_tree, type_ref_tree, struct_tree, union_tree, size_union_tree}
 use Rattle.meaning.proofs.KindTable.{and_0, and_1}
 use Rattle.bundle.proofs.Trees.{ended}
 use Rattle.bundle.proofs.PartTrees.{member_type_reads, others_read, members_split}
 use Rattle.bundle.proofs.Parts.{EnumParts, members_length, enum_at, array_at, members_none}
-use Rattle.sizes.specs.declared.Size.TheVariants.{Bytes, Other}
 use Rattle.sizes.specs.Paths.{size_shown}
 
 -- a test passes at each number below n
@@ -88,10 +84,10 @@ module _ {d at : ℕ} {s : List ℕ} {f : Form} (o : Opened d at s f) (r : Reads
   primitive_by_lem kinds.Enum p = rw (enum_at o r p).parts.tree
   primitive_by_lem kinds.Array p = rw (array_at o r p).parts.tree
 
-  -- not a primitive, by the variant's number
-  pub primitive_not : (t : TypeForm) → f ≡ OfType (type_form_meant t) → OneOf (1 ∷ 2 ∷ 3 ∷ 4 ∷ 5 ∷ 6 ∷ []) (tag_of the_type t) → size_shown (as_primitive (type_at d s at)) ≡ Other
+  -- not a primitive
+  pub primitive_not : (t : TypeForm) → f ≡ OfType (type_form_meant t) → (t ≡ code.Primitive → ⊥) → size_shown (as_primitive (type_at d s at)) ≡ None
   unfolding type_form_meant
-  primitive_not code.Primitive p q = absurd (miss (1 ∷ 2 ∷ 3 ∷ 4 ∷ 5 ∷ 6 ∷ []) 0 tt q)
+  primitive_not code.Primitive p q = absurd (q refl)
   primitive_not code.TypeRef p q = ap size_shown (primitive_by_lem kinds.TypeRef p)
   primitive_not code.Struct p q = ap size_shown (primitive_by_lem kinds.Struct p)
   primitive_not code.Union p q = ap size_shown (primitive_by_lem kinds.Union p)
@@ -99,19 +95,19 @@ module _ {d at : ℕ} {s : List ℕ} {f : Form} (o : Opened d at s f) (r : Reads
   primitive_not code.Array p q = ap size_shown (primitive_by_lem kinds.Array p)
   primitive_not code.SizeUnion p q = ap size_shown (primitive_by_lem kinds.SizeUnion p)
 
-  -- a constant-size enum, and other forms
-  pub constant_enum_not : (t : TypeForm) → f ≡ OfType (type_form_meant t) → OneOf (0 ∷ 1 ∷ 2 ∷ 3 ∷ 5 ∷ 6 ∷ []) (tag_of the_type t) → is_enum_with_constant_size_variants (type_at d s at) ≡ false
+  -- not an enum
+  pub constant_enum_not : (t : TypeForm) → f ≡ OfType (type_form_meant t) → (t ≡ code.Enum → ⊥) → is_enum_with_constant_size_variants (type_at d s at) ≡ false
   unfolding type_form_meant
   constant_enum_not code.Primitive p q = rw (primitive_tree o r p)
   constant_enum_not code.TypeRef p q = rw (type_ref_tree o r p)
   constant_enum_not code.Struct p q = rw (struct_tree o r zero_group p)
   constant_enum_not code.Union p q = rw (union_tree o r zero_group p)
-  constant_enum_not code.Enum p q = absurd (miss (0 ∷ 1 ∷ 2 ∷ 3 ∷ 5 ∷ 6 ∷ []) 4 tt q)
+  constant_enum_not code.Enum p q = absurd (q refl)
   constant_enum_not code.Array p q = rw (array_at o r p).parts.tree
   constant_enum_not code.SizeUnion p q = rw (size_union_tree o r zero_group p)
 
 -- a primitive ends behind its kind byte
-primitive_ends_at : (d at w : ℕ) (s : List ℕ) → Reads (read_ty d s at) → Bytes w ≡ size_shown (as_primitive (type_at d s at)) → Next (at + 1) ≡ step_of (read_ty d s at)
+primitive_ends_at : (d at w : ℕ) (s : List ℕ) → Reads (read_ty d s at) → Some w ≡ size_shown (as_primitive (type_at d s at)) → Ok (at + 1) ≡ step_of (read_ty d s at)
 primitive_ends_at d at w s r e = go (form_of (get_or s at 0)) refl
   where
     o : Opened d at s (form_of (get_or s at 0))
@@ -120,7 +116,7 @@ primitive_ends_at d at w s r e = go (form_of (get_or s at 0)) refl
     other : (t : kinds.TypeForm) → form_of (get_or s at 0) ≡ OfType t → primitive_by o r t ≡ nothing → ⊥
     other t p q = let h = e ∙ ap size_shown (primitive_by_lem o r t p ∙ q) in let z : ◌≡◌ {A = ℕ} 0 1 = cc in omega arith
 
-    go : (f : Form) → form_of (get_or s at 0) ≡ f → Next (at + 1) ≡ step_of (read_ty d s at)
+    go : (f : Form) → form_of (get_or s at 0) ≡ f → Ok (at + 1) ≡ step_of (read_ty d s at)
     go (OfType Primitive) p = sym (primitive_ends o p)
     go (OfType kinds.TypeRef) p = absurd (other kinds.TypeRef p refl)
     go (OfType kinds.Struct) p = absurd (other kinds.Struct p refl)
@@ -134,22 +130,22 @@ primitive_ends_at d at w s r e = go (form_of (get_or s at 0)) refl
     go kinds.Unknown p = absurd (no_other o r (λ f q. let z : ◌≡◌ {A = ℕ} 0 1 = cc in omega arith))
 
 -- a test of the size that was shown
-shown_holds : (test : ℕ → Bool) (w : ℕ) (x : Option ℕ) → Bytes w ≡ size_shown x → holds (λ k. test (get_primitive_size k)) x ≡ test w
+shown_holds : (test : ℕ → Bool) (w : ℕ) (x : Option ℕ) → Some w ≡ size_shown x → holds (λ k. test (get_primitive_size k)) x ≡ test w
 shown_holds test w (some k) e = let p : get_primitive_size k ≡ w = cc in ap test p
 shown_holds test w nothing e = let z : ◌≡◌ {A = ℕ} 0 1 = cc in absurd (omega arith)
 
-shown_other : (test : ℕ → Bool) (x : Option ℕ) → Other ≡ size_shown x → holds test x ≡ false
+shown_other : (test : ℕ → Bool) (x : Option ℕ) → None ≡ size_shown x → holds test x ≡ false
 shown_other test nothing e = refl
 shown_other test (some k) e = let z : ◌≡◌ {A = ℕ} 0 1 = cc in absurd (omega arith)
 
 -- the first of n variants that were read at `at`, whose type stands at i
-module _ (d : ℕ) (s : List ℕ) (n at : ℕ) (h : 0 < n) (r : Reads (read_members (read_ty d) 0x52 n s at)) (i : ℕ) (e : Next i ≡ step_of (member_head 0x52 s at)) where
+module _ (d : ℕ) (s : List ℕ) (n at : ℕ) (h : 0 < n) (r : Reads (read_members (read_ty d) 0x52 n s at)) (i : ℕ) (e : Ok i ≡ step_of (member_head 0x52 s at)) where
   t_reads : Reads (read_ty d s i)
   t_reads = member_type_reads d 0x52 s n at h r i e
 
   -- it is a primitive of w bytes
-  module _ (w : ℕ) (q : Bytes w ≡ size_shown (as_primitive (type_at d s i))) where
-    g : Next (i + 1) ≡ step_of (read_ty d s i)
+  module _ (w : ℕ) (q : Some w ≡ size_shown (as_primitive (type_at d s i))) where
+    g : Ok (i + 1) ≡ step_of (read_ty d s i)
     g = primitive_ends_at d i w s t_reads q
 
     pub variants_read : Reads (read_members (read_ty d) 0x52 (n - 1) s (i + 1))
@@ -174,7 +170,7 @@ module _ (d : ℕ) (s : List ℕ) (n at : ℕ) (h : 0 < n) (r : Reads (read_memb
         rw tree (sym (shown_holds (λ v. all (has_size v) ms) w (as_primitive (type_at d s i)) q))
 
   -- it is no primitive
-  module _ (q : Other ≡ size_shown (as_primitive (type_at d s i))) where
+  module _ (q : None ≡ size_shown (as_primitive (type_at d s i))) where
     pub all_other : (size : ℕ) → all (has_size size) (list_of (members_at d 0x52 n s at)) ≡ false
     all_other size =
         let j = ended (read_ty d s i) t_reads in
@@ -191,6 +187,26 @@ all_none d s n at size e = rw (members_none d 0x52 s n at e)
 
 pub one_none : (d : ℕ) (s : List ℕ) (n at : ℕ) → n ≡ 0 → one_size (list_of (members_at d 0x52 n s at)) ≡ false
 one_none d s n at e = rw (members_none d 0x52 s n at e)
+
+-- all n variants that were read at `at` have this size where those from number k on have it, which stand at `next`
+module _ (d : ℕ) (s : List ℕ) (n at size : ℕ) where
+  pub record Passing (k next : ℕ) : Type 0 where
+    pub reads : Reads (read_members (read_ty d) 0x52 (n - k) s next)
+    pub same : all (has_size size) (list_of (members_at d 0x52 (n - k) s next)) ≡ all (has_size size) (list_of (members_at d 0x52 n s at))
+
+  pub passing_start : Reads (read_members (read_ty d) 0x52 n s at) → Passing 0 at
+  passing_start r =
+      let p : n - 0 ≡ n = omega arith in
+      record { reads = rw p r; same = rw p }
+
+  pub passing_next : {k next : ℕ} → Passing k next → k < n → (i : ℕ) → Ok i ≡ step_of (member_head 0x52 s next)
+      → (w : ℕ) → Some w ≡ size_shown (as_primitive (type_at d s i)) → w ≡ size → Passing (k + 1) (i + 1)
+  passing_next {k} {next} g h i e w q p =
+      let z : n - (k + 1) ≡ n - k - 1 = omega arith in
+      record {
+        reads = rw z (variants_read d s (n - k) next (omega arith) g.reads i e w q);
+        same = rw z (all_later d s (n - k) next (omega arith) g.reads i e w q size p ∙ g.same);
+      }
 
 -- two variants or more, and fewer
 list_few : (ms : List Member) → length ms < 2 → constant_size_variants ms ≡ false

@@ -1,7 +1,9 @@
 -- The field references of an expression or type that was read, as a scan over its records meets them.
+use Rattle.std.specs.Prelude.{Err, Ok, is_some}
+use Rattle.refusal.specs.declared.Refusal.{Refusal}
 use Prim.Native.Nat.{ℕ, ◌+◌, ◌*◌, ◌≤◌}
 use native.Mathlib.Omega.{arith}
-use mathlib.Core.Bool.{Bool, true, false, ◌&&◌}
+use mathlib.Core.Bool.{Bool, true, false, not, ◌&&◌, false≢true}
 use mathlib.Core.Path.{◌≡◌, refl, sym, ap, ap₂, ◌∙◌}
 use mathlib.Core.List.{List, [], ◌∷◌, ◌++◌, map}
 use lib.ListN.{length}
@@ -10,18 +12,16 @@ use Rattle.meaning.specs.Tree.{Expr, literal, field_ref, sizeof, alignof, binary
 use Rattle.meaning.specs.ReadExpr.{read_expr}
 use Rattle.meaning.specs.ReadType.{read_ty}
 use Rattle.meaning.specs.References.{is_constant, collect_field_references_recursive, collect_field_references_in_type_kind}
-use Rattle.bundle.specs.declared.Step.TheVariants.{Next, Refused}
 use Rattle.bundle.specs.View.{step_of, Reads}
 use Rattle.bundle.specs.Definitions.{type_at}
 use Rattle.bundle.specs.Expressions.{expr_at}
 use Rattle.bundle.proofs.Trees.{refused_no}
 use Rattle.scan.proofs.Flat.{type_forward}
-use Rattle.sizes.specs.declared.Found.TheVariants.{At, Nothing}
 use Rattle.sizes.specs.Scan.{path_at, references_from, paths_from, found_of, Fits}
 use Rattle.sizes.proofs.Flat.{expr_flat, type_flat, whole, whole_fits, whole_wide}
 
 -- nothing that was read is refused
-pub expr_no : (d at k : ℕ) (s : List ℕ) → Reads (read_expr d s at) → Refused k ≡ step_of (read_expr d s at) → ⊥
+pub expr_no : (d at : ℕ) (k : Refusal) (s : List ℕ) → Reads (read_expr d s at) → Err k ≡ step_of (read_expr d s at) → ⊥
 expr_no d at k s r e = refused_no (read_expr d s at) k r (sym e)
 
 -- an expression is constant exactly where it has no reference
@@ -43,7 +43,7 @@ constant_empty (binary k l r) =
 constant_empty (unary k e) = constant_empty e
 
 -- an expression that ended at m
-module _ (d at m : ℕ) (s : List ℕ) (e : Next m ≡ step_of (read_expr d s at)) where
+module _ (d at m : ℕ) (s : List ℕ) (e : Ok m ≡ step_of (read_expr d s at)) where
   pub expr_bound : m ≤ length s
   expr_bound = (expr_flat s d at m e).bound
 
@@ -60,22 +60,17 @@ module _ (d at m : ℕ) (s : List ℕ) (e : Next m ≡ step_of (read_expr d s at
       mapped [] = refl
       mapped (p ∷ ps) = refl
 
-  pub constant_not : (p : ℕ) → At p ≡ found_of (references_from s at m) → is_constant (expr_at d s at) ≡ false
-  constant_not p q = by_first ∙ go (references_from s at m) q
+  pub constant_none : (b : Bool) → is_some (found_of (references_from s at m)) ≡ not b → b ≡ is_constant (expr_at d s at)
+  constant_none b q = go b (references_from s at m) q ∙ sym by_first
     where
-      go : (ps : List ℕ) → At p ≡ found_of ps → is_empty ps ≡ false
-      go [] q = let z : ◌≡◌ {A = ℕ} 0 1 = cc in absurd (omega arith)
-      go (x ∷ ps) q = refl
-
-  pub constant_is : Nothing ≡ found_of (references_from s at m) → is_constant (expr_at d s at) ≡ true
-  constant_is q = by_first ∙ go (references_from s at m) q
-    where
-      go : (ps : List ℕ) → Nothing ≡ found_of ps → is_empty ps ≡ true
-      go [] q = refl
-      go (x ∷ ps) q = let z : ◌≡◌ {A = ℕ} 0 1 = cc in absurd (omega arith)
+      go : (b : Bool) (ps : List ℕ) → is_some (found_of ps) ≡ not b → b ≡ is_empty ps
+      go true [] q = refl
+      go true (p ∷ ps) q = absurd (false≢true (sym q))
+      go false [] q = absurd (false≢true q)
+      go false (p ∷ ps) q = refl
 
 -- a type that ended at m
-module _ (d at m : ℕ) (s : List ℕ) (l : d ≤ depth_limit) (e : Next m ≡ step_of (read_ty d s at)) where
+module _ (d at m : ℕ) (s : List ℕ) (l : d ≤ depth_limit) (e : Ok m ≡ step_of (read_ty d s at)) where
   pub type_bound : m ≤ length s
   type_bound = (type_flat s d l at m e).bound
 

@@ -1,11 +1,12 @@
 -- Going over the records of a run of bytes, one after another.
+use Rattle.std.specs.Prelude.{Ok, Some}
+use Rattle.std.specs.Result.{result_unwrap_or}
 use Prim.Native.Nat.{ℕ, zero, suc, ◌+◌, ◌-◌, ◌*◌, ◌≤◌, ◌<◌}
 use native.Mathlib.Omega.{arith}
 use mathlib.Core.Bool.{Bool, true, false, cond}
 use mathlib.Core.Logic.{◌⊎◌, inl, inr}
 use mathlib.Core.Path.{◌≡◌, refl, sym, ap, ◌∙◌}
 use mathlib.Core.List.{List, []}
-use mathlib.Core.Option.{some}
 use borrow.Author.Tests.{lt-ltb, le-ltb}
 use Rattle.meaning.proofs.KindTable.{side}
 use Rattle.meaning.specs.Kinds.{Form, OfExpr, OfType, OfMember, OfRecord, Unknown, Literal, FieldRef, Sizeof, Alignof, Binary, Unary, SizeUnion}
@@ -13,7 +14,6 @@ use Rattle.meaning.specs.Limits.{depth_limit}
 use Rattle.meaning.specs.Tree.{Ty, primitive}
 use Rattle.meaning.specs.Reader.{Read, ok, refused}
 use Rattle.meaning.specs.ReadType.{read_ty}
-use Rattle.bundle.specs.declared.Step.TheVariants.{Next, Refused}
 use Rattle.bundle.specs.View.{step_of}
 use Rattle.bundle.proofs.Heads.{ended_ok}
 use Rattle.scan.specs.Scan.{record_length, is_size_union, form_at}
@@ -72,17 +72,17 @@ unfolding next_at
 plain_end s at f u = rw u
 
 -- the end of a size-discriminated union
-pub union_next : (s : List ℕ) (at m : ℕ) → Next m ≡ step_of (read_ty depth_limit s at) → next_at (OfType SizeUnion) s at ≡ m
+pub union_next : (s : List ℕ) (at m : ℕ) → Ok m ≡ step_of (read_ty depth_limit s at) → next_at (OfType SizeUnion) s at ≡ m
 unfolding next_at is_size_union
 union_next s at m e = rw (ended_ok (read_ty depth_limit s at) m (primitive 0) e)
 
-pub union_refused : (s : List ℕ) (at k : ℕ) → Refused k ≡ step_of (read_ty depth_limit s at) → next_at (OfType SizeUnion) s at ≡ at + 1
+pub union_or : (s : List ℕ) (at : ℕ) → result_unwrap_or (step_of (read_ty depth_limit s at)) (at + 1) ≡ next_at (OfType SizeUnion) s at
 unfolding next_at is_size_union
-union_refused s at k e = go (read_ty depth_limit s at) e
+union_or s at = go (read_ty depth_limit s at)
   where
-    go : (x : Read Ty) → Refused k ≡ step_of x → end_or (at + 1) x ≡ at + 1
-    go (ok t m) e = let z : ◌≡◌ {A = ℕ} 0 1 = cc in absurd (omega arith)
-    go (refused j) e = refl
+    go : (x : Read Ty) → result_unwrap_or (step_of x) (at + 1) ≡ end_or (at + 1) x
+    go (ok t m) = refl
+    go (refused j) = refl
 
 -- every record ends behind its start
 pub record_forward : (s : List ℕ) (at : ℕ) → at < next_at (form_at s at) s at
@@ -95,7 +95,7 @@ record_forward s at = go (is_size_union (form_at s at)) (read_ty depth_limit s a
     go false x p = omega (arith, some_length (form_at s at))
 
 -- where a field reference ends
-pub names_end : (s : List ℕ) (f : Form) (at n : ℕ) → names_in f ≡ some n → next_at f s at ≡ at + 1 + 2 * n
+pub names_end : (s : List ℕ) (f : Form) (at n : ℕ) → names_in f ≡ Some n → next_at f s at ≡ at + 1 + 2 * n
 unfolding names_in next_at record_length is_size_union
 names_end s (OfExpr (FieldRef k)) at n e = let p : k ≡ n = cc in omega arith
 names_end s (OfExpr (Literal w)) at n e = let z : ◌≡◌ {A = ℕ} 0 1 = cc in absurd (omega arith)

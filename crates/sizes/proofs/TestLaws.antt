@@ -1,13 +1,21 @@
 -- The kept answers before any test was made.
-use Prim.Native.Nat.{ℕ}
+use Rattle.std.specs.Prelude.{Option, Some, None}
+use Prim.Native.Nat.{ℕ, zero, suc}
 use native.Mathlib.Omega.{arith}
 use mathlib.Core.Bool.{Bool}
 use mathlib.Core.List.{List}
-use mathlib.Core.Path.{refl}
-use lib.ListN.{replicate}
-use Rattle.meaning.proofs.Lists.{get_d_zeros}
+use mathlib.Core.Path.{◌≡◌, refl}
+use lib.ListN.{replicate, get_or}
 use Rattle.sizes.specs.Tests.{Kept}
 
 -- nothing is known yet
-pub kept_start : (s : List ℕ) (j : Bool) → Kept s j (replicate 256 0)
-kept_start s j = record { size = refl; no = λ i e. absurd (omega (arith, get_d_zeros 256 i, e)); yes = λ i e. absurd (omega (arith, get_d_zeros 256 i, e)) }
+unknown : (n i : ℕ) → ◌≡◌ {A = Option Bool} (get_or (replicate n None) i None) None
+unknown zero i = refl
+unknown (suc n) zero = refl
+unknown (suc n) (suc i) = unknown n i
+
+no_some : {o : Option Bool} {holds : Bool} → o ≡ None → o ≡ Some holds → ⊥
+no_some p e = let z : ◌≡◌ {A = ℕ} 0 1 = cc in omega arith
+
+pub kept_start : (s : List ℕ) (j : Bool) → Kept s j (replicate 256 None)
+kept_start s j = record { size = refl; answers = λ i holds e. absurd (no_some (unknown 256 i) e) }

@@ -1,5 +1,5 @@
 -- The size test and the jagged test, as the walk over a bundle's definitions makes them: one answer is kept for each definition.
-use Rattle.std.specs.Prelude.{ℕ, ◌≤◌, Bool, true, false, List, ◌≡◌, length, get_or}
+use Rattle.std.specs.Prelude.{ℕ, ◌≤◌, Bool, true, false, List, ◌≡◌, length, get_or, Option, Some, None}
 use Rattle.meaning.specs.Circle.{circles}
 use Rattle.meaning.specs.Limits.{size_limit, definition_limit}
 use Rattle.meaning.specs.Lists.{holds}
@@ -25,11 +25,10 @@ named_holds jagged s t = named_of jagged t (known jagged s)
 unfoldable pub answer_at : Bool → List ℕ → ℕ → Bool
 answer_at jagged s i = holds (named_holds jagged s) (type_at (bundle_of s) i)
 
--- of each definition 0 where its answer is not known yet, 1 where the test does not hold, 2 where it does
-pub record Kept (s : List ℕ) (jagged : Bool) (kept : List ℕ) : Type 0 where
+-- of each definition the answer, or None where it is not known yet
+pub record Kept (s : List ℕ) (jagged : Bool) (kept : List (Option Bool)) : Type 0 where
   pub size : length kept ≡ definition_limit
-  pub no : (i : ℕ) → get_or kept i 0 ≡ 1 → answer_at jagged s i ≡ false
-  pub yes : (i : ℕ) → get_or kept i 0 ≡ 2 → answer_at jagged s i ≡ true
+  pub answers : (i : ℕ) (holds : Bool) → get_or kept i None ≡ Some holds → answer_at jagged s i ≡ holds
 
 -- a bundle in which nothing circles
 pub record Acyclic (s : List ℕ) : Type 0 where

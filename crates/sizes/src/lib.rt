@@ -1,7 +1,7 @@
 // The field references in expressions and types, constant expressions, and the sizes of primitives.
 #![tactic(auto)]
 
-ghost use Rattle.std.specs.Prelude.{◌≡◌, ◌+◌, ◌≤◌, ◌<◌, length};
+ghost use Rattle.std.specs.Prelude.{◌≡◌, ◌+◌, ◌≤◌, ◌<◌, length, Ok};
 ghost use Rattle.meaning.specs.Kinds.{OfExpr, OfType, Primitive, form_of};
 ghost use Rattle.meaning.specs.Limits.{size_limit};
 ghost use Rattle.meaning.specs.Lists.{all};
@@ -10,31 +10,24 @@ ghost use Rattle.meaning.specs.ReadExpr.{read_expr};
 ghost use Rattle.meaning.specs.ReadType.{read_ty, read_members};
 ghost use Rattle.meaning.specs.References.{is_constant};
 ghost use Rattle.meaning.specs.Sizes.{get_primitive_size, has_size, one_size, is_enum_with_constant_size_variants};
-ghost use Rattle.bundle.specs.declared.Step.TheVariants.{Next};
 ghost use Rattle.bundle.specs.View.{expr_form_meant, type_form_meant, form_meant, step_of, Reads};
 ghost use Rattle.bundle.specs.Definitions.{type_at, members_at};
 ghost use Rattle.bundle.specs.Expressions.{expr_at};
 ghost use Rattle.scan.specs.Scan.{record_length};
 ghost use Rattle.sizes.specs.Paths.{Fit, target_meant, size_shown};
-ghost use Rattle.sizes.specs.Scan.{next_at, names_in, names_of, path_at, references_from, found_of};
+ghost use Rattle.sizes.specs.Scan.{next_at, names_in, path_at, references_from, found_of};
 
-use bundle::{Count, ExprForm, Form, Step, TypeForm};
-
-// The position of a field reference.
-#[derive(Clone, Copy)]
-pub enum Found {
-    At(usize),
-    Nothing,
-}
+use bundle::{ExprForm, Form, TypeForm};
 
 // Where the expression's record at `at` ends.
+#[tactic(auto, unfolding(bundle::specs::View::expr_form_meant, scan::specs::Scan::record_length))]
 fn expr_end(at: usize, e: ExprForm) -> usize
     requires { at ≤ size_limit }
     ensures { result ≡ at + record_length (OfExpr (expr_form_meant e)) }
 {
     match e {
-        ExprForm::Literal(w) => at + 1 + (w as usize),
-        ExprForm::FieldRef(n) => at + 1 + 2 * (n as usize),
+        ExprForm::Literal(w) => at + 1 + usize::from(w),
+        ExprForm::FieldRef(n) => at + 1 + 2 * usize::from(n),
         ExprForm::Sizeof => at + 3,
         ExprForm::Alignof => at + 3,
         ExprForm::Binary => at + 1,
@@ -43,6 +36,7 @@ fn expr_end(at: usize, e: ExprForm) -> usize
 }
 
 // Where the type's record at `at` ends; a size-discriminated union is passed over whole.
+#[tactic(auto, using(crate::proofs::ScanLaws::union_or), unfolding(bundle::specs::View::type_form_meant, scan::specs::Scan::record_length, scan::specs::Scan::is_size_union, crate::specs::Scan::next_at))]
 fn type_end(s: &[u8], at: usize, t: TypeForm) -> usize
     requires { at ≤ size_limit }
     ensures { result ≡ next_at (OfType (type_form_meant t)) s.now at }
@@ -54,17 +48,12 @@ fn type_end(s: &[u8], at: usize, t: TypeForm) -> usize
         TypeForm::Union => at + 12,
         TypeForm::Enum => at + 12,
         TypeForm::Array => at + 11,
-        TypeForm::SizeUnion => {
-            let step = bundle::type_at(s, at, bundle::DEPTH_LIMIT);
-            match step {
-                Step::Next(next) => next,
-                Step::Refused(_) => at + 1,
-            }
-        }
+        TypeForm::SizeUnion => bundle::type_at(s, at, bundle::DEPTH_LIMIT).unwrap_or(at + 1),
     }
 }
 
 // Where a scan for references goes on behind the record at `at`, of this form.
+#[tactic(auto, unfolding(bundle::specs::View::form_meant, scan::specs::Scan::record_length, scan::specs::Scan::is_size_union, crate::specs::Scan::next_at))]
 fn next_at(s: &[u8], at: usize, form: Form) -> usize
     requires { at ≤ size_limit }
     ensures { result ≡ next_at (form_meant form) s.now at }
@@ -72,94 +61,73 @@ fn next_at(s: &[u8], at: usize, form: Form) -> usize
     match form {
         Form::OfExpr(e) => expr_end(at, e),
         Form::OfType(t) => type_end(s, at, t),
-        Form::OfMember(w) => at + 3 + (w as usize),
+        Form::OfMember(w) => at + 3 + usize::from(w),
         Form::OfRecord(_) => at + 1,
         Form::Unknown => at + 1,
     }
 }
 
-// The count of names of a field reference.
-#[derive(Clone, Copy)]
-pub enum Names {
-    Of(usize),
-    No,
-}
-
 // The count of names, where the form is a field reference's.
-fn names_in(form: Form) -> Names
-    ensures { result ≡ names_of (names_in (form_meant form)) }
+#[tactic(auto, unfolding(bundle::specs::View::expr_form_meant, bundle::specs::View::form_meant, crate::specs::Scan::names_in))]
+fn names_in(form: Form) -> Option<usize>
+    ensures { result ≡ names_in (form_meant form) }
 {
     let Form::OfExpr(e) = form else {
-        return Names::No;
+        return None;
     };
-    match e {
-        ExprForm::Literal(_) => Names::No,
-        ExprForm::FieldRef(n) => Names::Of(n as usize),
-        ExprForm::Sizeof => Names::No,
-        ExprForm::Alignof => Names::No,
-        ExprForm::Binary => Names::No,
-        ExprForm::Unary => Names::No,
-    }
+    let ExprForm::FieldRef(n) = e else {
+        return None;
+    };
+    Some(usize::from(n))
 }
 
-// The first field reference in the records from `at` to `end`.
-pub fn next_reference(s: &[u8], at: usize, end: usize) -> Found
+// The position of the first field reference in the records from `at` to `end`.
+#[tactic(auto, using(crate::proofs::NamesLaws::step_found, crate::proofs::NamesLaws::step_less, crate::proofs::NamesLaws::step_other, crate::proofs::NamesLaws::step_none))]
+pub fn next_reference(s: &[u8], at: usize, end: usize) -> Option<usize>
     requires end_in_bounds { end ≤ length s.now }
     requires s_len_bound { length s.now ≤ size_limit }
     ensures { result ≡ found_of (references_from s.now at end) }
 {
     let mut next = at;
     while next < end {
-        let kind = s[next];
-        let form = bundle::form_of(kind);
-        let names = names_in(form);
-        match names {
-            Names::Of(_) => return Found::At(next),
-            Names::No => {
-                next = next_at(s, next, form);
-            }
+        let form = bundle::form_of(s[next]);
+        if names_in(form).is_some() {
+            return Some(next);
         }
+        next = next_at(s, next, form);
     }
-    Found::Nothing
+    None
 }
 
 // Whether no field reference is inside the expression that was read from `at` to `end`, with `depth` levels left.
+#[tactic(auto, using(crate::proofs::ReferenceLaws::expr_bound))]
 pub fn is_constant_to(s: &[u8], at: usize, end: usize, depth: usize) -> bool
-    requires { (length s.now ≤ size_limit) × (Next end ≡ step_of (read_expr depth s.now at)) }
+    requires { (length s.now ≤ size_limit) × (Ok end ≡ step_of (read_expr depth s.now at)) }
     ensures { result ≡ is_constant (expr_at depth s.now at) }
 {
-    let found = next_reference(s, at, end);
-    match found {
-        Found::At(_) => false,
-        Found::Nothing => true,
-    }
+    next_reference(s, at, end).is_none()
 }
 
 // Whether no field reference is inside the expression that was read at `at`.
+#[tactic(auto, using(crate::proofs::ReferenceLaws::expr_no))]
 pub fn is_constant(s: &[u8], at: usize, depth: usize) -> bool
     requires reads { Reads (read_expr depth s.now at) }
     requires s_len_bound { length s.now ≤ size_limit }
     ensures { result ≡ is_constant (expr_at depth s.now at) }
 {
-    let step = bundle::expr_at(s, at, depth);
-    match step {
-        Step::Next(end) => is_constant_to(s, at, end, depth),
-        Step::Refused(_) => true,
-    }
+    let Ok(end) = bundle::expr_at(s, at, depth) else {
+        return true;
+    };
+    is_constant_to(s, at, end, depth)
 }
 
 // The count of names of the field reference at `at`. They stand behind its kind byte, two bytes each.
+#[tactic(auto, using(crate::proofs::PathLaws::path_counted))]
 pub fn path_length(s: &[u8], at: usize) -> usize
     requires { at < length s.now }
     ensures { result ≡ length (path_at s.now at) }
 {
-    let kind = s[at];
-    let form = bundle::form_of(kind);
-    let names = names_in(form);
-    match names {
-        Names::Of(n) => n,
-        Names::No => 0,
-    }
+    names_in(bundle::form_of(s[at])).unwrap_or(0)
 }
 
 // What a field reference means: a type's name, and the count and position of the names of the field part.
@@ -171,6 +139,7 @@ pub struct Target {
 }
 
 // What the field reference at `at` means, where `current` is the bundle's current name.
+#[tactic(auto, using(crate::proofs::PathLaws::parse_few, crate::proofs::PathLaws::parse_more))]
 pub fn parse_field_reference(s: &[u8], at: usize, current: u16) -> Target
     requires { Fit s.now at }
     ensures { target_meant s.now result ≡ parse_field_reference current (path_at s.now at) }
@@ -185,7 +154,7 @@ pub fn parse_field_reference(s: &[u8], at: usize, current: u16) -> Target
     }
     let name = bundle::u16_at(s, at + 1);
     Target {
-        name: name,
+        name,
         count: n - 1,
         at: at + 3,
     }
@@ -195,34 +164,27 @@ pub fn parse_field_reference(s: &[u8], at: usize, current: u16) -> Target
 const SIZES: [u8; 12] = [1, 2, 4, 8, 1, 2, 4, 8, 1, 2, 4, 8];
 
 // The bytes of a primitive.
+#[tactic(auto, using(crate::proofs::PrimitiveLaws::primitive_kind))]
 pub fn get_primitive_size(kind: u8) -> u8
     requires { form_of kind ≡ OfType Primitive }
     ensures { result ≡ get_primitive_size kind }
 {
-    SIZES[(kind - 0x30) as usize]
+    SIZES[usize::from(kind - 0x30)]
 }
 
-// The bytes of a primitive; other types have no size of their own.
-#[derive(Clone, Copy)]
-pub enum Size {
-    Bytes(u8),
-    Other,
-}
-
-// The size of the type that was read at `at`, where it is a primitive.
-fn primitive_at(s: &[u8], at: usize, depth: usize) -> Size
+// The size of the type that was read at `at`, where it is a primitive; other types have no size of their own.
+fn primitive_at(s: &[u8], at: usize, depth: usize) -> Option<u8>
     requires { Reads (read_ty depth s.now at) }
     ensures { result ≡ size_shown (as_primitive (type_at depth s.now at)) }
 {
     let kind = s[at];
-    let form = bundle::form_of(kind);
-    let Form::OfType(t) = form else {
-        return Size::Other;
+    let Form::OfType(t) = bundle::form_of(kind) else {
+        return None;
     };
     let TypeForm::Primitive = t else {
-        return Size::Other;
+        return None;
     };
-    Size::Bytes(get_primitive_size(kind))
+    Some(get_primitive_size(kind))
 }
 
 // Whether the `count` enum variants that were read at `at` are all primitives of `size` bytes.
@@ -232,21 +194,17 @@ fn all_of_size(s: &[u8], at: usize, depth: usize, count: usize, size: u8) -> boo
 {
     let form = bundle::form_of(0x52);
     let mut next = at;
-    let mut left = count;
-    while 0 < left {
-        let head = bundle::member_head_at(s, next, 0x52, form);
-        let Step::Next(body) = head else {
+    for _ in 0..count {
+        let Ok(body) = bundle::member_head_at(s, next, 0x52, form) else {
             return false;
         };
-        let found = primitive_at(s, body, depth);
-        let Size::Bytes(w) = found else {
+        let Some(w) = primitive_at(s, body, depth) else {
             return false;
         };
         if w != size {
             return false;
         }
         next = body + 1;
-        left -= 1;
     }
     true
 }
@@ -259,16 +217,13 @@ pub fn one_size(s: &[u8], at: usize, depth: usize, count: usize) -> bool
     if count == 0 {
         return false;
     }
-    let form = bundle::form_of(0x52);
-    let head = bundle::member_head_at(s, at, 0x52, form);
-    let Step::Next(body) = head else {
+    let Ok(body) = bundle::member_head_at(s, at, 0x52, bundle::form_of(0x52)) else {
         return false;
     };
-    let found = primitive_at(s, body, depth);
-    match found {
-        Size::Bytes(w) => all_of_size(s, at, depth, count, w),
-        Size::Other => false,
-    }
+    let Some(w) = primitive_at(s, body, depth) else {
+        return false;
+    };
+    all_of_size(s, at, depth, count, w)
 }
 
 // Whether the type that was read at `at` is an enum of two variants or more, all primitives of one size.
@@ -276,20 +231,16 @@ pub fn is_enum_with_constant_size_variants(s: &[u8], at: usize, depth: usize) ->
     requires { Reads (read_ty depth s.now at) }
     ensures { result ≡ is_enum_with_constant_size_variants (type_at depth s.now at) }
 {
-    let kind = s[at];
-    let form = bundle::form_of(kind);
-    let Form::OfType(t) = form else {
+    let Form::OfType(t) = bundle::form_of(s[at]) else {
         return false;
     };
     let TypeForm::Enum = t else {
         return false;
     };
-    let count = bundle::count_at(s, at + 1);
-    let Count::Of(n, next) = count else {
+    let Ok((n, next)) = bundle::count_at(s, at + 1) else {
         return false;
     };
-    let tag = bundle::expr_at(s, next, depth - 1);
-    let Step::Next(after) = tag else {
+    let Ok(after) = bundle::expr_at(s, next, depth - 1) else {
         return false;
     };
     if n < 2 {

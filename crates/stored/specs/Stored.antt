@@ -1,30 +1,20 @@
 -- What it means that an answer is the stored one.
-use Rattle.std.specs.Prelude.{ℕ, ◌-◌, ◌≤◌, Bool, true, false, List, [], ◌∷◌, ◌++◌, ◌≡◌, ℤ, pos, negsuc, length, take, drop}
+use Rattle.std.specs.Prelude.{ℕ, ◌-◌, ◌≤◌, Bool, true, false, List, [], ◌∷◌, ◌++◌, ◌≡◌, ℤ, pos, negsuc, length, take, Result, Ok, Err}
+use Rattle.refusal.specs.declared.Refusal.{Refusal}
+use Rattle.refusal.specs.Numbers.{number}
 use Rattle.names.specs.Documents.{bytes}
 use Rattle.meaning.specs.Encoding.{number_items}
 use Rattle.meaning.specs.Lists.{flat_map}
-use Rattle.bundle.specs.declared.Answer.{Answer}
-use Rattle.bundle.specs.declared.Answer.TheVariants.{Accepted, Refused}
 
 -- r is the answer to the question whether P holds
 abbrev pub Whether : Bool → Type 0 → Type 0
 Whether true P = P
 Whether false P = P → ⊥
 
--- the bytes xs stand at `at`
-abbrev pub BytesAt : List ℕ → ℕ → List ℕ → Type 0
-BytesAt s at xs = take (length xs) (drop at s) ≡ xs
-
 -- the first m bytes are xs
 pub record Due (due : List ℕ) (m : ℕ) (xs : List ℕ) : Type 0 where
   pub size : m ≡ length xs
   pub bytes : take m due ≡ xs
-
--- both have n bytes, and the first n are the same
-pub record Same (a b : List ℕ) (n : ℕ) : Type 0 where
-  pub first : n ≤ length a
-  pub second : n ≤ length b
-  pub same : take n a ≡ take n b
 
 -- a number in w bytes, low byte first
 unfoldable pub number_bytes : ℕ → ℕ → List ℕ
@@ -51,7 +41,12 @@ bits_of (negsuc n) = 18446744073709551615 - n
 abbrev pub refusal_bytes : ℕ → List ℕ
 refusal_bytes k = 0x7E ∷ k ∷ []
 
--- the first m bytes are the answer's: the result in the first places of `out`, or 7E and the refusal
-unfoldable pub IsDue : Answer → List ℕ → List ℕ → ℕ → Type 0
-IsDue (Accepted n) out due m = (n ≤ length out) × Due due m (take n out)
-IsDue (Refused k) out due m = Due due m (refusal_bytes k)
+-- the bytes are the answer's: the result in the first places of `out`, or 7E and the refusal
+unfoldable pub IsDue : Result ℕ Refusal → List ℕ → List ℕ → Type 0
+IsDue (Ok n) out due = (n ≤ length out) × (due ≡ take n out)
+IsDue (Err r) out due = due ≡ refusal_bytes (number r)
+
+-- what is due in the first m bytes is due in the part of so many, where they are there
+pub record Cut : Type 0 where
+  pub to : (due : List ℕ) (m : ℕ) (xs : List ℕ) → Due due m xs → (m ≤ length due) × (take m due ≡ xs)
+  pub from : (due : List ℕ) (m : ℕ) (xs : List ℕ) → m ≤ length due → take m due ≡ xs → Due due m xs

@@ -1,5 +1,5 @@
 -- Distinct numbers in a table of buckets, and the place of each by order of entry.
-use Rattle.std.specs.Prelude.{ℕ, ◌+◌, ◌-◌, ◌*◌, ◌%◌, ◌≤◌, ◌<◌, ◌≡◌, cond, List, eqb, length, get_or, set}
+use Rattle.std.specs.Prelude.{ℕ, ◌+◌, ◌-◌, ◌*◌, ◌%◌, ◌≤◌, ◌<◌, ◌≡◌, cond, List, Option, MatchOption, eqb, length, get_or, set}
 
 -- member k of a table from a on with b buckets
 abbrev pub member : List ℕ → ℕ → ℕ → ℕ → ℕ
@@ -33,16 +33,19 @@ pub record Within (a e : ℕ) (t t' : List ℕ) : Type 0 where
   pub before : (i : ℕ) → i < a → get_or t' i 0 ≡ get_or t i 0
   pub behind : (i : ℕ) → e ≤ i → get_or t' i 0 ≡ get_or t i 0
 
--- the first i of n places from a on have v, and t' is t but for the n
-pub record Filled (a n v i : ℕ) (t t' : List ℕ) : Type 0 where
-  pub each : (h : ℕ) → h < i → get_or t' (a + h) 0 ≡ v
-  pub only : Within a (a + n) t t'
+-- r is the one place below n where f gives x
+pub record Only (f : ℕ → ℕ) (n x r : ℕ) : Type 0 where
+  pub within : r < n
+  pub here : f r ≡ x
+  pub only : (i : ℕ) → i < n → f i ≡ x → i ≡ r
 
--- r is the place of x among the first n members, or n where x is none of them
-pub record PlaceOf (t : List ℕ) (a b n x r : ℕ) : Type 0 where
-  pub within : r ≤ n
-  pub here : r < n → member t a b r ≡ x
-  pub only : (i : ℕ) → i < n → member t a b i ≡ x → i ≡ r
+-- the one place below n where f gives x, and None where it gives x at none
+abbrev pub PlaceIn : (ℕ → ℕ) → ℕ → ℕ → Option ℕ → Type 0
+PlaceIn f n x o = MatchOption o ((i : ℕ) → i < n → f i ≡ x → ⊥) (Only f n x)
+
+-- the place of x among the first n members, and None where x is none of them
+abbrev pub PlaceOf : List ℕ → ℕ → ℕ → ℕ → ℕ → Option ℕ → Type 0
+PlaceOf t a b n x o = PlaceIn (member t a b) n x o
 
 -- how many members there are once one of n, or one more, has the place r
 abbrev pub grown : ℕ → ℕ → ℕ

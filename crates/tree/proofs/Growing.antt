@@ -1,6 +1,7 @@
 -- One number more in a tree.
---     entered_old, -first, -new   x is one of the numbers, the first of all, or one more
---     place_at, place_unfound     the place of x, by where the search ends
+--     tree_same, tree_none        a tree stays where its places do; no number
+--     entered_first, -new         x is the first of all, or one more
+--     place_at                    the place of x, by where the search ends
 use Prim.Native.Nat.{ℕ, zero, suc, ◌+◌, ◌*◌, ◌/◌, ◌%◌, ◌≤◌, ◌<◌}
 use native.Mathlib.Omega.{arith}
 use native.Mathlib.Decide.{dec_lt, ℕ_discrete}
@@ -12,41 +13,12 @@ use mathlib.Core.Path.{◌≡◌, refl, sym, ap, subst, ◌∙◌}
 use lib.ListN.{length, length-set, get_or, set}
 use lib.Seq.{get_or-set_same, get_or-set_other}
 use borrow.Author.Tests.{eq-eqb, ne_eqb}
+use Rattle.std.specs.Prelude.{Option, Some, None, Result, Ok, Err}
+use Rattle.std.specs.Result.{result_ok}
+use Rattle.table.specs.Table.{PlaceIn}
 use Rattle.tree.specs.Tree.{number_at, link_at, onward, seek, SameBits, OneDeeper, Tree, Extends, Unfound, EndOf, PlaceOf, Node, Entered}
-use Rattle.tree.specs.declared.End.{End}
-use Rattle.tree.specs.declared.End.TheVariants.{At, Link}
 use Rattle.tree.proofs.Bits.{bit, same_bits_equal}
 use Rattle.tree.proofs.Searching.{seek_here, seek_other, few_steps, same_place}
-
--- an end that a `match` has taken apart
-pub end_at_lem : (t : List ℕ) (a n x : ℕ) {r : End} {k : ℕ} → r ≡ At k → EndOf t a n x r → (k ≤ n) × (k < n → number_at t a k ≡ x) × (k ≡ n → n ≡ 0)
-end_at_lem t a n x e g = subst (EndOf t a n x) e g
-
-pub end_link : (t : List ℕ) (a n x : ℕ) {r : End} {p : ℕ} → r ≡ Link p → EndOf t a n x r → Unfound t a n x p
-end_link t a n x e g = subst (EndOf t a n x) e g
-
--- x is put behind n numbers
-pub node_put : (t : List ℕ) (a n x : ℕ) → a + 3 * n + 3 ≤ length t → Node t a n x (set (set (set t (a + 3 * n) x) (a + 3 * n + 1) 0) (a + 3 * n + 2) 0)
-node_put t a n x room =
-    let i = a + 3 * n in
-    let t₁ = set t i x in
-    let t₂ = set t₁ (i + 1) 0 in
-    let s₁ = length-set t i x in
-    let s₂ = length-set t₁ (i + 1) 0 in
-    record {
-      size = length-set t₂ (i + 2) 0 ∙ s₂ ∙ s₁;
-      here = get_or-set_other t₂ (i + 2) i 0 0 (λ z. omega (arith, z)) ∙ get_or-set_other t₁ (i + 1) i 0 0 (λ z. omega (arith, z)) ∙ get_or-set_same t i x 0 (omega arith);
-      links = λ b.
-          by_cases (ℕ_discrete (b % 2) 0)
-          (λ (z : b % 2 ≡ 0).
-          let at : link_at a n b ≡ i + 1 = omega (arith, z) in
-          rw at (get_or-set_other t₂ (i + 2) (i + 1) 0 0 (λ z. omega (arith, z)) ∙ get_or-set_same t₁ (i + 1) 0 0 (omega (arith, s₁))))
-          (λ (z : ¬ (b % 2 ≡ 0)).
-          let at : link_at a n b ≡ i + 2 = omega (arith, z, bit b) in
-          rw at (get_or-set_same t₂ (i + 2) 0 0 (omega (arith, s₁, s₂))));
-      before = λ j c. get_or-set_other t₂ (i + 2) j 0 0 (λ z. omega (arith, z)) ∙ get_or-set_other t₁ (i + 1) j 0 0 (λ z. omega (arith, z)) ∙ get_or-set_other t i j x 0 (λ z. omega (arith, z));
-      behind = λ j c. get_or-set_other t₂ (i + 2) j 0 0 (λ z. omega (arith, z)) ∙ get_or-set_other t₁ (i + 1) j 0 0 (λ z. omega (arith, z)) ∙ get_or-set_other t i j x 0 (λ z. omega (arith, z));
-    }
 
 -- a number that is found in t is found in u, with some steps more
 module _ {t u : List ℕ} {a n : ℕ} (tree : Tree t a n) (extends : Extends t u a n) (x e : ℕ) where
@@ -75,10 +47,6 @@ module _ {t u : List ℕ} {a n : ℕ} (tree : Tree t a n) (extends : Extends t u
           by_cases (ℕ_discrete (number_at t a k) x)
           (λ (c : number_at t a k ≡ x). seek_here u a x (f + e) k b (extends.numbers k l ∙ c) ∙ sym (seek_here t a x f k b c) ∙ p)
           (λ (c : ¬ (number_at t a k ≡ x)). on (get_or t (link_at a k b) 0) refl (sym (seek_other t a x f k b c) ∙ p) c later)
-
--- the link at which a search ended is there
-pub link_room : {t : List ℕ} {a n x p : ℕ} → Tree t a n → Unfound t a n x p → p < length t
-link_room tree m = omega (arith, tree.within, m.here, m.below, bit m.bits)
 
 -- a link that stays leads where it did
 deeper_same : {t u : List ℕ} {a n m : ℕ} {depth : ℕ → ℕ} → Extends t u a n → (deep : ℕ → ℕ) → ((i : ℕ) → i < n → deep i ≡ depth i) → n ≤ m → (k b : ℕ) → k < n
@@ -258,33 +226,11 @@ entered_first {t} {a} {n} {x} {u} z fits w room =
       only = record { size = w.size; before = λ i c. w.before i (omega arith); behind = w.behind };
     }
 
--- x is one of the numbers
-pub entered_old : {t : List ℕ} {a n x k : ℕ} → Tree t a n → k < n → number_at t a k ≡ x → Entered t a n x k t
-entered_old {t} {a} {n} {x} {k} tree l e =
-    record {
-      within = omega arith;
-      all = rw (ne_eqb k n (λ z. omega (arith, z))) tree;
-      here = e;
-      old = λ i c. refl;
-      only = record { size = refl; before = λ i c. refl; behind = λ i c. refl };
-    }
-
-pub place_at : {t : List ℕ} {a n x k : ℕ} → Tree t a n → k ≤ n → (k < n → number_at t a k ≡ x) → (k ≡ n → n ≡ 0) → PlaceOf t a n x k
-place_at {t} {a} {n} {x} {k} tree l here end =
-    record {
-      few = λ some e. few_steps tree x e some;
-      within = l;
-      here = here;
-      only = λ i c e.
-          by_cases (dec_lt k n) (λ (d : k < n). same_place tree i k c d (e ∙ sym (here d)))
-          (λ (d : ¬ (k < n)). let z : k ≡ n = omega arith in absurd (omega (arith, end z)));
-    }
-
-pub place_unfound : {t : List ℕ} {a n x p : ℕ} → Tree t a n → Unfound t a n x p → PlaceOf t a n x n
-place_unfound {x = x} tree m =
-    record {
-      few = λ some e. few_steps tree x e some;
-      within = omega arith;
-      here = λ l. absurd (omega arith);
-      only = λ i c e. absurd (m.none i c e);
-    }
+-- where x stands, by where the search ends
+pub place_at : {t : List ℕ} {a n x : ℕ} {o : Option ℕ} → Tree t a n → (r : Result ℕ (Option ℕ)) → EndOf t a n x r → o ≡ result_ok r → PlaceOf t a n x o
+place_at {t} {a} {n} {x} tree r end e = record { few = λ some j. few_steps tree x j some; place = rw e (go r end) }
+  where
+    go : (r : Result ℕ (Option ℕ)) → EndOf t a n x r → PlaceIn (number_at t a) n x (result_ok r)
+    go (Ok k) f = record { within = f.0; here = f.1; only = λ i c q. same_place tree i k c f.0 (q ∙ sym f.1) }
+    go (Err (Some p)) m = m.none
+    go (Err None) z = λ i c q. absurd (omega (arith, z))

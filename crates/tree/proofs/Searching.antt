@@ -1,6 +1,7 @@
 -- The search for a number by its bits.
---     searching_start, -next, -missing   the loop of the search
---     place-end                        what its end says of the place
+--     searching_next, -unfound   the loop of the search
+--     few_steps                  a search ends within 17 steps
+--     same_place                 two places of one number are the same
 use Prim.Native.Nat.{ℕ, zero, suc, ◌+◌, ◌-◌, ◌/◌, ◌%◌, ◌≤◌, ◌<◌}
 use native.Mathlib.Omega.{arith}
 use native.Mathlib.Decide.{ℕ_discrete}
@@ -33,17 +34,6 @@ pub record Searching (t : List ℕ) (a n x k b : ℕ) : Type 0 where
   pub below : k ≡ n → n ≡ 0
   pub along : (tree : Tree t a n) → (upper (tree.depth k) x ≡ b) × SameBits (tree.depth k) (number_at t a k) x
   pub same : (u : List ℕ) → Extends t u a n → (f : ℕ) → seek u a x (steps + f) 0 x ≡ seek u a x f k b
-
-pub searching_start : (t : List ℕ) (a n x : ℕ) → Searching t a n x 0 x
-searching_start t a n x =
-    record {
-      steps = 0;
-      few = omega arith;
-      bound = omega arith;
-      below = λ e. sym e;
-      along = λ tree. rw tree.root (refl, tt);
-      same = λ u k f. let q : 0 + f ≡ f = omega arith in ap (λ g. seek u a x g 0 x) q;
-    }
 
 module _ {t : List ℕ} {a n x k b : ℕ} (o : Searching t a n x k b) (tree : Tree t a n) (l : k < n) (ne : number_at t a k ≡ x → ⊥) where
   -- where another search goes from here

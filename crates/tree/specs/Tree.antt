@@ -1,10 +1,8 @@
 -- A tree of distinct numbers in a slice, three places for each from a on, in the order of their entry: the number, and a link for each value
 -- of a bit. The search for a number starts at the first, and goes on by its bits, the lowest first. A link is one more than the place to
 -- which it leads, and 0 where there is none.
-use Rattle.std.specs.Prelude.{ℕ, zero, suc, ◌+◌, ◌*◌, ◌/◌, ◌%◌, ◌≤◌, ◌<◌, cond, List, ◌⊎◌, ◌≡◌, eqb, length, get_or}
-use Rattle.table.specs.Table.{Within, grown}
-use Rattle.tree.specs.declared.End.{End}
-use Rattle.tree.specs.declared.End.TheVariants.{At, Link}
+use Rattle.std.specs.Prelude.{ℕ, zero, suc, ◌+◌, ◌*◌, ◌/◌, ◌%◌, ◌≤◌, ◌<◌, cond, List, Option, Some, None, Result, Ok, Err, ◌⊎◌, ◌≡◌, eqb, length, get_or}
+use Rattle.table.specs.Table.{PlaceIn, Within, grown}
 
 -- number k
 abbrev pub number_at : List ℕ → ℕ → ℕ → ℕ
@@ -71,17 +69,16 @@ pub record Unfound (t : List ℕ) (a n x p : ℕ) : Type 0 where
   pub along : (tree : Tree t a n) → (upper (tree.depth owner) x ≡ bits) × SameBits (tree.depth owner) (number_at t a owner) x
   pub new : (u : List ℕ) → Extends t u a n → get_or u p 0 ≡ suc n → number_at u a n ≡ x → seek u a x (n + 1) 0 x ≡ suc n
 
--- where the search for x ends: at a number, or at n where there are none; or at a link
-abbrev pub EndOf : List ℕ → ℕ → ℕ → ℕ → End → Type 0
-EndOf t a n x (At k) = (k ≤ n) × (k < n → number_at t a k ≡ x) × (k ≡ n → n ≡ 0)
-EndOf t a n x (Link p) = Unfound t a n x p
+-- where the search for x ends: at the number, at a link, or at none of both where there are no numbers
+abbrev pub EndOf : List ℕ → ℕ → ℕ → ℕ → Result ℕ (Option ℕ) → Type 0
+EndOf t a n x (Ok k) = (k < n) × (number_at t a k ≡ x)
+EndOf t a n x (Err (Some p)) = Unfound t a n x p
+EndOf t a n x (Err None) = n ≡ 0
 
--- r is the place of x among the n numbers, or n where x is none of them; a search for x ends within 17 steps
-pub record PlaceOf (t : List ℕ) (a n x r : ℕ) : Type 0 where
+-- the place of x among the n numbers, and None where it is none of them; a search for x ends within 17 steps
+pub record PlaceOf (t : List ℕ) (a n x : ℕ) (o : Option ℕ) : Type 0 where
   pub few : 0 < n → (e : ℕ) → seek t a x (17 + e) 0 x ≡ seek t a x 17 0 x
-  pub within : r ≤ n
-  pub here : r < n → number_at t a r ≡ x
-  pub only : (k : ℕ) → k < n → number_at t a k ≡ x → k ≡ r
+  pub place : PlaceIn (number_at t a) n x o
 
 -- x is number n of u, with links that lead nowhere, and all else is as in t
 pub record Node (t : List ℕ) (a n x : ℕ) (u : List ℕ) : Type 0 where

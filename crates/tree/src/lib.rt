@@ -1,20 +1,17 @@
 // A tree of distinct numbers of 16 bits, each with its place by order of entry, in a slice from `base` on: for each the number itself and
 // two links, one more than the place to which they lead, or 0. The search for a number goes by its bits, the lowest first, so that it takes
 // 17 steps at most whatever the numbers are.
+//
+// Links are numbers and no `Option`: they stand in the caller's places of 16 bits (no heap, fixed memory). No struct holds the
+// slice, `base` and `n`, and no slice begins at `base`: callers write other places of it between two calls, and their facts are of the whole.
 #![tactic(auto)]
 
 ghost use Rattle.std.specs.Prelude.{◌+◌, ◌*◌, ◌≤◌, ◌<◌, length};
 ghost use Rattle.tree.specs.Tree.{Tree, EndOf, PlaceOf, Entered, Node};
 
-// Where a search ends: at a number, or at a link that leads nowhere.
-#[derive(Clone, Copy)]
-pub enum End {
-    At(usize),
-    Link(usize),
-}
-
-// Where the search for `x` among the `n` numbers ends.
-fn search(t: &[u16], base: usize, n: usize, x: u16) -> End
+// The place of `x` among the `n` numbers, or where it is none of them the link at which the search for it ends; `Err(None)` where there are
+// no numbers.
+fn search(t: &[u16], base: usize, n: usize, x: u16) -> Result<usize, Option<usize>>
     requires { Tree t.now base n }
     ensures { EndOf t.now base n x result }
 {
@@ -23,29 +20,25 @@ fn search(t: &[u16], base: usize, n: usize, x: u16) -> End
     while k < n {
         let at = base + 3 * k;
         if t[at] == x {
-            return End::At(k);
+            return Ok(k);
         }
-        let link = at + 1 + (bits % 2) as usize;
-        let next = t[link] as usize;
+        let link = at + 1 + usize::from(bits % 2);
+        let next = usize::from(t[link]);
         if next == 0 {
-            return End::Link(link);
+            return Err(Some(link));
         }
         k = next - 1;
-        bits = bits / 2;
+        bits /= 2;
     }
-    End::At(n)
+    Err(None)
 }
 
-// The place of `x` among the `n` numbers; `n` where it is none of them.
-pub fn place_of(t: &[u16], base: usize, n: usize, x: u16) -> usize
+// The place of `x` among the `n` numbers, if it is one of them.
+pub fn place_of(t: &[u16], base: usize, n: usize, x: u16) -> Option<usize>
     requires { Tree t.now base n }
     ensures { PlaceOf t.now base n x result }
 {
-    let end = search(t, base, n, x);
-    match end {
-        End::At(k) => k,
-        End::Link(_) => n,
-    }
+    search(t, base, n, x).ok()
 }
 
 // Puts `x` behind the `n` numbers, with links that lead nowhere.
@@ -64,17 +57,14 @@ pub fn enter(t: &mut [u16], base: usize, n: usize, x: u16) -> usize
     requires { Tree t.old base n × (base + 3 * n + 3 ≤ length t.old) × (n < 65535) }
     ensures { Entered t.old base n x result t.new }
 {
-    let end = search(t, base, n, x);
-    match end {
-        End::At(k) => {
-            if k < n {
-                return k;
-            }
+    match search(t, base, n, x) {
+        Ok(k) => k,
+        Err(None) => {
             put(t, base, n, x);
             n
         }
-        End::Link(p) => {
-            t[p] = (n + 1) as u16;
+        Err(Some(link)) => {
+            t[link] = (n + 1) as u16;
             put(t, base, n, x);
             n
         }

@@ -1,4 +1,5 @@
 -- The validators of enums, arrays and structs, and of all definitions.
+use Rattle.std.specs.Prelude as prelude
 use Prim.Native.Nat.{ℕ, suc, ◌+◌, ◌-◌, ◌≤◌, ◌<◌}
 use native.Mathlib.Omega.{arith}
 use mathlib.Core.Bool.{Bool, true, false}
@@ -180,18 +181,18 @@ shape_array s at e h = subst (ShapeOf 24 s at) e h
 abbrev from : List ℕ → ℕ → List Violation
 from s i = flat_map (λ d. validate_type (bundle_of s) d.0 d.1.name d.1.type) (enumerate i (drop i (bundle_of s).definitions))
 
-pub record Defining (s : List ℕ) (list₀ out₀ : List ℕ) (p₀ : Position) (kept nested list out : List ℕ) (i : ℕ) (p : Position) : Type 0 where
+pub record Defining (s : List ℕ) (list₀ out₀ : List ℕ) (p₀ : Position) (kept nested : List (prelude.Option Bool)) (list out : List ℕ) (i : ℕ) (p : Position) : Type 0 where
   pub going : Going (violations (bundle_of s)) out₀ p₀ (from s i) out p
   pub list_size : length list ≡ length list₀
   pub keeps : Kept s false kept
   pub nests : Kept s true nested
 
-pub defining_start : (s list out : List ℕ) (p : Position) {kept nested : List ℕ} → Room p (violations (bundle_of s)) → Kept s false kept → Kept s true nested
+pub defining_start : (s list out : List ℕ) (p : Position) {kept nested : List (prelude.Option Bool)} → Room p (violations (bundle_of s)) → Kept s false kept → Kept s true nested
     → Defining s list out p kept nested list out 0 p
 unfolding violations
 defining_start s list out p r k n = record { going = going_start r; list_size = refl; keeps = k; nests = n }
 
-module _ {s places : List ℕ} {count : ℕ} (t : Table s count places) {list₀ out₀ : List ℕ} {p₀ : Position} {kept nested list out : List ℕ} {i : ℕ} {p : Position}
+module _ {s places : List ℕ} {count : ℕ} (t : Table s count places) {list₀ out₀ : List ℕ} {p₀ : Position} {kept nested : List (prelude.Option Bool)} {list out : List ℕ} {i : ℕ} {p : Position}
     (c : Defining s list₀ out₀ p₀ kept nested list out i p) where
   pub defining_end : count ≤ i → Wrote (violations (bundle_of s)) out₀ p₀ out p
   defining_end h =
@@ -209,7 +210,7 @@ module _ {s places : List ℕ} {count : ℕ} (t : Table s count places) {list₀
     pub defining_room : Room p (violations_at s places i)
     defining_room = going_room c.going (violations_at s places i) (from s (i + 1)) first_of
 
-    pub defining_next : {kept' nested' list' out' : List ℕ} {q : Position} → length list' ≡ length list → Wrote (violations_at s places i) out p out' q → Kept s false kept' → Kept s true nested'
+    pub defining_next : {kept' nested' : List (prelude.Option Bool)} {list' out' : List ℕ} {q : Position} → length list' ≡ length list → Wrote (violations_at s places i) out p out' q → Kept s false kept' → Kept s true nested'
         → Defining s list₀ out₀ p₀ kept' nested' list' out' (i + 1) q
     defining_next l w k n = record {
       going = going_next c.going (violations_at s places i) (from s (i + 1)) first_of w;

@@ -5,15 +5,14 @@ use mathlib.Core.Bool.{Bool, true, false, false≢true}
 use mathlib.Core.Option.{Option, none, some}
 use mathlib.Core.Path.{◌≡◌, refl, sym, ap, subst, ◌∙◌}
 use mathlib.Core.List.{List, [], ◌∷◌, ◌++◌, append-nil, map}
-use lib.Dec.{T, leb, leb→le, ltb}
-use borrow.Author.Tests.{lt-ltb}
+use lib.Dec.{T, leb, leb→le}
 use native.Mathlib.Decide.{dec_lt}
 use mathlib.Core.Logic.{by_cases}
 use lib.ListN.{length, get_or, take, length-append, length-take}
 use lib.Seq.{length-take-le}
 use Rattle.names.specs.Documents.{bytes}
 use Rattle.meaning.specs.Kinds.{form_of, lookup}
-use Rattle.meaning.specs.Lists.{flat_map, filter_map, push, only_if}
+use Rattle.meaning.specs.Lists.{flat_map, filter_map, push}
 use Rattle.meaning.specs.Reader.{little, names_from}
 use Rattle.meaning.specs.Report.{violation_items}
 use Rattle.meaning.specs.Violations.{Violation, violation, enum_forward, enum_cycle, array_cycle, field_forward, variable_element, jagged_reference, jagged_inline, nested_jagged, check_enum_tag_layout_cycle, check_array_size_layout_cycle}
@@ -29,26 +28,29 @@ use Rattle.violation.specs.declared.Record.{Record}
 use Rattle.violation.specs.Records.{Puts, farthest, padded}
 use Rattle.violation.proofs.Putting.{puts_both, puts_alike, record_size, record_alike, puts_size}
 use Rattle.search.specs.Work.{IfWanted}
-use Rattle.checks.specs.declared.Check.{Check}
-use Rattle.checks.specs.declared.Check.TheVariants as check
-use Rattle.checks.specs.Checks.{violation_of, Fitting, Checked, ReferenceIs}
+use Rattle.std.specs.Prelude as prelude
+use Rattle.checks.specs.declared.Finding.{Finding}
+use Rattle.checks.specs.declared.Finding.TheVariants.{EnumForward, EnumCycle, ArrayCycle, FieldForward, VariableElement, JaggedReference, JaggedInline, NestedJagged}
+use Rattle.violation.specs.declared.Kind.TheVariants as kinds
+use Rattle.violation.specs.Kinds.{type_number}
+use Rattle.checks.specs.Checks.{violation_of, FindingFits, Fitting, Checked, ReferenceIs}
 use Rattle.bundle.specs.Definitions.{bundle_of}
 use Rattle.validate.specs.declared.Position.{Position}
 use Rattle.validate.specs.Validating.{Recorded, record_with, record_bytes, Wrote, Room, check_reference}
 
 -- a reference has at most four names
-abbrev few_names : Option ℕ → Bool
-few_names none = true
-few_names (some n) = leb n 4
+abbrev few_names : prelude.Option ℕ → Bool
+few_names prelude.None = true
+few_names (prelude.Some n) = leb n 4
 
 length_names : (s : List ℕ) (at n : ℕ) → length (names_from s at n) ≡ n
 unfolding names_from
 length_names s at zero = refl
 length_names s at (suc n) = ap suc (length_names s (at + 2) n)
 
-path_length : (s : List ℕ) (at : ℕ) (o : Option ℕ) → T (few_names o) → length (names_at s at o) ≤ 4
-path_length s at none t = omega arith
-path_length s at (some n) t = omega (arith, length_names s at n, leb→le n 4 t)
+path_length : (s : List ℕ) (at : ℕ) (o : prelude.Option ℕ) → T (few_names o) → length (names_at s at o) ≤ 4
+path_length s at prelude.None t = omega arith
+path_length s at (prelude.Some n) t = omega (arith, length_names s at n, leb→le n 4 t)
 
 pub path_few : (s : List ℕ) (at : ℕ) → get_or s at 0 < 256 → length (path_at s at) ≤ 4
 unfolding path_at lookup names_in
@@ -74,47 +76,44 @@ path_end s p n k e h = go (path_at s p) k (omega (arith, e))
 
 -- what the record of each answer says
 pub path_padded : (path : List ℕ) {n a b c d : ℕ} → n ≡ length path → a ≡ get_or path 0 0 → b ≡ get_or path 1 0 → c ≡ get_or path 2 0 → d ≡ get_or path 3 0
-    → ◌≡◌ {A = Path} (record { count = n; first = a; second = b; third = c; fourth = d }) (padded path)
-path_padded path n a b c d = λ i. record { count = n i; first = a i; second = b i; third = c i; fourth = d i }
+    → ◌≡◌ {A = Path} (record { count = n; names = a ∷ b ∷ c ∷ d ∷ [] }) (padded path)
+path_padded path n a b c d = λ i. record { count = n i; names = a i ∷ b i ∷ c i ∷ d i ∷ [] }
 
--- the reference that an answer has lies within the bytes
-module _ (s : List ℕ) {c : Check} (room : ℕ) {p : ℕ} (f : Fitting s room c) where
-  pub fit_enum : {k : ℕ} → c ≡ check.EnumCycle p k → Fit s p
-  fit_enum e = (subst (Fitting s room) e f).fit
+-- the reference of what was found lies within the bytes
+module _ (s : List ℕ) {c : Finding} (room : ℕ) {p : ℕ} (f : FindingFits s room c) where
+  pub fit_enum : {k : ℕ} → c ≡ EnumCycle p k → Fit s p
+  fit_enum e = (subst (FindingFits s room) e f).fit
 
-  pub fit_array : {k : ℕ} → c ≡ check.ArrayCycle p k → Fit s p
-  fit_array e = (subst (Fitting s room) e f).fit
+  pub fit_array : {k : ℕ} → c ≡ ArrayCycle p k → Fit s p
+  fit_array e = (subst (FindingFits s room) e f).fit
 
-  pub fit_field : c ≡ check.FieldForward p → Fit s p
-  fit_field e = (subst (Fitting s room) e f).fit
+  pub fit_field : c ≡ FieldForward p → Fit s p
+  fit_field e = (subst (FindingFits s room) e f).fit
 
-module _ (s : List ℕ) {c : Check} {r : Record} where
-  pub recorded_fine : c ≡ check.Fine → r ≡ record_with 0 (padded []) 0 → Recorded s c r
-  recorded_fine e q = rw (e, q) (record { names = []; few = omega arith; path = refl; kind = omega arith; is = λ i n list. refl; room = λ m f. (omega arith, omega arith) })
+module _ (s : List ℕ) {c : Finding} {r : Record} where
+  pub recorded_enum : {t f : ℕ} → c ≡ EnumForward t f → r ≡ record_with kinds.EnumForward (padded (t ∷ f ∷ [])) → Recorded s c r 3
+  recorded_enum {t} {f} e q = rw (e, q) (record { names = t ∷ f ∷ []; few = omega arith; path = refl; is = λ i n list. refl; room = λ m f. (omega arith, f) })
 
-  pub recorded_enum : {t f : ℕ} → c ≡ check.EnumForward t f → r ≡ record_with 1 (padded (t ∷ f ∷ [])) 3 → Recorded s c r
-  recorded_enum {t} {f} e q = rw (e, q) (record { names = t ∷ f ∷ []; few = omega arith; path = refl; kind = omega arith; is = λ i n list. refl; room = λ m f. (omega arith, f) })
+  pub recorded_enum_cycle : {p k : ℕ} → c ≡ EnumCycle p k → r ≡ record_with kinds.EnumCycle (padded (path_at s p)) → length (path_at s p) ≤ 4 → Recorded s c r k
+  recorded_enum_cycle {p} e q l = rw (e, q) (record { names = path_at s p; few = l; path = refl; is = λ i n list. refl; room = λ m f. (f.short, f.room) })
 
-  pub recorded_enum_cycle : {p k : ℕ} → c ≡ check.EnumCycle p k → r ≡ record_with 2 (padded (path_at s p)) k → length (path_at s p) ≤ 4 → Recorded s c r
-  recorded_enum_cycle {p} e q l = rw (e, q) (record { names = path_at s p; few = l; path = refl; kind = omega arith; is = λ i n list. refl; room = λ m f. (f.short, f.room) })
+  pub recorded_array_cycle : {p k : ℕ} → c ≡ ArrayCycle p k → r ≡ record_with kinds.ArrayCycle (padded (path_at s p)) → length (path_at s p) ≤ 4 → Recorded s c r k
+  recorded_array_cycle {p} e q l = rw (e, q) (record { names = path_at s p; few = l; path = refl; is = λ i n list. refl; room = λ m f. (f.short, f.room) })
 
-  pub recorded_array_cycle : {p k : ℕ} → c ≡ check.ArrayCycle p k → r ≡ record_with 3 (padded (path_at s p)) k → length (path_at s p) ≤ 4 → Recorded s c r
-  recorded_array_cycle {p} e q l = rw (e, q) (record { names = path_at s p; few = l; path = refl; kind = omega arith; is = λ i n list. refl; room = λ m f. (f.short, f.room) })
+  pub recorded_field : {p : ℕ} → c ≡ FieldForward p → r ≡ record_with kinds.FieldForward (padded (path_at s p)) → length (path_at s p) ≤ 4 → Recorded s c r 3
+  recorded_field {p} e q l = rw (e, q) (record { names = path_at s p; few = l; path = refl; is = λ i n list. refl; room = λ m f. (f.short, f.room) })
 
-  pub recorded_field : {p : ℕ} → c ≡ check.FieldForward p → r ≡ record_with 4 (padded (path_at s p)) 3 → length (path_at s p) ≤ 4 → Recorded s c r
-  recorded_field {p} e q l = rw (e, q) (record { names = path_at s p; few = l; path = refl; kind = omega arith; is = λ i n list. refl; room = λ m f. (f.short, f.room) })
+  pub recorded_element : c ≡ VariableElement → r ≡ record_with kinds.VariableElement (padded []) → Recorded s c r 1
+  recorded_element e q = rw (e, q) (record { names = []; few = omega arith; path = refl; is = λ i n list. refl; room = λ m f. (omega arith, omega arith) })
 
-  pub recorded_element : c ≡ check.VariableElement → r ≡ record_with 5 (padded []) 1 → Recorded s c r
-  recorded_element e q = rw (e, q) (record { names = []; few = omega arith; path = refl; kind = omega arith; is = λ i n list. refl; room = λ m f. (omega arith, omega arith) })
+  pub recorded_reference : c ≡ JaggedReference → r ≡ record_with kinds.JaggedReference (padded []) → Recorded s c r 2
+  recorded_reference e q = rw (e, q) (record { names = []; few = omega arith; path = refl; is = λ i n list. refl; room = λ m f. (omega arith, omega arith) })
 
-  pub recorded_reference : c ≡ check.JaggedReference → r ≡ record_with 6 (padded []) 2 → Recorded s c r
-  recorded_reference e q = rw (e, q) (record { names = []; few = omega arith; path = refl; kind = omega arith; is = λ i n list. refl; room = λ m f. (omega arith, omega arith) })
+  pub recorded_inline : c ≡ JaggedInline → r ≡ record_with kinds.JaggedInline (padded []) → Recorded s c r 1
+  recorded_inline e q = rw (e, q) (record { names = []; few = omega arith; path = refl; is = λ i n list. refl; room = λ m f. (omega arith, omega arith) })
 
-  pub recorded_inline : c ≡ check.JaggedInline → r ≡ record_with 7 (padded []) 1 → Recorded s c r
-  recorded_inline e q = rw (e, q) (record { names = []; few = omega arith; path = refl; kind = omega arith; is = λ i n list. refl; room = λ m f. (omega arith, omega arith) })
-
-  pub recorded_nested : c ≡ check.NestedJagged → r ≡ record_with 8 (padded []) 1 → Recorded s c r
-  recorded_nested e q = rw (e, q) (record { names = []; few = omega arith; path = refl; kind = omega arith; is = λ i n list. refl; room = λ m f. (omega arith, omega arith) })
+  pub recorded_nested : c ≡ NestedJagged → r ≡ record_with kinds.NestedJagged (padded []) → Recorded s c r 1
+  recorded_nested e q = rw (e, q) (record { names = []; few = omega arith; path = refl; is = λ i n list. refl; room = λ m f. (omega arith, omega arith) })
 
 -- nothing, and one list of violations behind another
 pub wrote_none : (out : List ℕ) (p : Position) → Wrote [] out p out p
@@ -160,8 +159,20 @@ module _ {whole : List Violation} {out₀ : List ℕ} {p₀ : Position} {left : 
   }
 
 -- a check that found nothing writes nothing
-pub put_fine : (s : List ℕ) (i n : ℕ) (list : List ℕ) {c : Check} → c ≡ check.Fine → {out out' : List ℕ} {p q : Position} → out' ≡ out → q ≡ p → Wrote (push (violation_of s i n list c) []) out p out' q
-put_fine s i n list e {out} {out'} {p} {q} a b = rw (e, a, b) (wrote_none out p)
+pub put_fine : (s : List ℕ) (i n : ℕ) (list : List ℕ) (c : prelude.Option Finding) → ((f : Finding) → c ≡ prelude.Some f → ⊥) → (out : List ℕ) (p : Position)
+    → Wrote (push (violation_of s i n list c) []) out p out p
+put_fine s i n list prelude.None none-found out p = wrote_none out p
+put_fine s i n list (prelude.Some f) none-found out p = absurd (none-found f refl)
+
+-- and so where that is told by a test
+pub put_nothing : (s : List ℕ) (i n : ℕ) (list : List ℕ) (c : prelude.Option Finding) → prelude.is_some c ≡ false → {out out' : List ℕ} {p q : Position} → out' ≡ out → q ≡ p
+    → Wrote (push (violation_of s i n list c) []) out p out' q
+put_nothing s i n list prelude.None e {out} {out'} {p} {q} a b = rw (a, b) (wrote_none out p)
+put_nothing s i n list (prelude.Some f) e a b = let z : ◌≡◌ {A = ℕ} 0 1 = cc in absurd (omega arith)
+
+-- what was found fits, where that of the check does
+pub fits_found : (s : List ℕ) (room : ℕ) {c : prelude.Option Finding} {f : Finding} → c ≡ prelude.Some f → Fitting s room c → FindingFits s room f
+fits_found s room e g = subst (Fitting s room) e g
 
 -- what is written, where the places and the position are told by equations
 pub wrote_same : {vs : List Violation} {out out' out'' : List ℕ} {p q r : Position} → Wrote vs out p out' q → out'' ≡ out' → r ≡ q → Wrote vs out p out'' r
@@ -173,35 +184,26 @@ push_append none vs = refl
 push_append (some v) vs = refl
 
 -- what put_check writes
-module _ {s : List ℕ} {c : Check} {r : Record} (g : Recorded s c r) (i n : ℕ) (list : List ℕ) where
-  pub put_none : r.kind ≡ 0 → (out : List ℕ) (p : Position) → Wrote (push (violation_of s i n list c) []) out p out p
-  put_none e out p =
-      let q : violation_of s i n list c ≡ none = g.is i n list ∙ ap (λ k. only_if (ltb 0 k) (some (violation r.kind i n g.names (take r.length list)))) e in
-      subst (λ o. Wrote (push o []) out p out p) (sym q) (wrote_none out p)
+module _ {s : List ℕ} {c : Finding} {r : Record} {k : ℕ} (g : Recorded s c r k) (i n : ℕ) (list : List ℕ) (f : FindingFits s (length list) c) where
+  abbrev found : Violation
+  found = violation (type_number r.kind) i n g.names (take k list)
 
-  module _ (ne : r.kind ≡ 0 → ⊥) (f : Fitting s (length list) c) where
-    abbrev found : Violation
-    found = violation r.kind i n g.names (take r.length list)
+  one : record_bytes (push (violation_of s i n list (prelude.Some c)) []) ≡ bytes (violation_items found)
+  one = ap (λ v. record_bytes (v ∷ [])) (g.is i n list) ∙ ap bytes (append-nil (violation_items found))
 
-    is_found : violation_of s i n list c ≡ some found
-    is_found = g.is i n list ∙ ap (λ t. only_if t (some found)) (lt-ltb 0 r.kind (omega arith))
+  size : length (bytes (violation_items found)) ≡ 16 + 3 * k
+  size = record_size (type_number r.kind) i n g.names (take k list) g.few ∙ ap (λ m. 16 + 3 * m) (length-take-le k list (g.room (length list) f).1)
 
-    one : record_bytes (push (violation_of s i n list c) []) ≡ bytes (violation_items found)
-    one = ap (λ o. record_bytes (push o [])) is_found ∙ ap bytes (append-nil (violation_items found))
+  pub put_room : {p : Position} → Room p (push (violation_of s i n list (prelude.Some c)) []) → p.at + 16 + 3 * k ≤ farthest
+  put_room w = omega (arith, w.far, w.few, (g.room (length list) f).0)
 
-    size : length (bytes (violation_items found)) ≡ 16 + 3 * r.length
-    size = record_size r.kind i n g.names (take r.length list) g.few ∙ ap (λ k. 16 + 3 * k) (length-take-le r.length list (g.room (length list) f).1)
-
-    pub put_room : {p : Position} → Room p (push (violation_of s i n list c) []) → p.at + 16 + 3 * r.length ≤ farthest
-    put_room w = omega (arith, w.far, w.few, ap (λ o. length (push o [])) is_found, (g.room (length list) f).0)
-
-    pub put_some : {out : List ℕ} {p : Position} {out' : List ℕ} {m : ℕ} → Puts (bytes (violation_items found)) out p.at out' m
-        → Wrote (push (violation_of s i n list c) []) out p out' (record { at = m; count = p.count + 1 })
-    put_some {out} {p} {out'} {m} w = record {
-      puts = subst (λ xs. Puts xs out p.at out' m) (sym one) w;
-      counts = ap (λ o. p.count + length (push o [])) (sym is_found);
-      short = omega (arith, ap (λ o. length (push o [])) is_found, ap length one, size, (g.room (length list) f).0);
-    }
+  pub put_some : {out : List ℕ} {p : Position} {out' : List ℕ} {m : ℕ} → Puts (bytes (violation_items found)) out p.at out' m
+      → Wrote (push (violation_of s i n list (prelude.Some c)) []) out p out' (record { at = m; count = p.count + 1 })
+  put_some {out} {p} {out'} {m} w = record {
+    puts = subst (λ xs. Puts xs out p.at out' m) (sym one) w;
+    counts = refl;
+    short = omega (arith, ap length one, size, (g.room (length list) f).0);
+  }
 
 -- less is left behind a reference than before it
 pub falls : {a b e : ℕ} → a < e → a < b → e - b < e - a
@@ -240,11 +242,11 @@ module _ {s : List ℕ} {f : List ℕ → Option Violation} {at end : ℕ} {list
     }
 
 -- the check of a reference, by what it is of
-pub of_tag : (s : List ℕ) (n x : ℕ) {list : List ℕ} {r : Check} (tag : Bool) → tag ≡ true → Checked s n list r (λ i. check_enum_tag_layout_cycle (bundle_of s) i n (path_at s x))
+pub of_tag : (s : List ℕ) (n x : ℕ) {list : List ℕ} {r : prelude.Option Finding} (tag : Bool) → tag ≡ true → Checked s n list r (λ i. check_enum_tag_layout_cycle (bundle_of s) i n (path_at s x))
     → Checked s n list r (λ i. check_reference tag (bundle_of s) i n (path_at s x))
 of_tag s n x {list} {r} tag e c = subst (λ t. Checked s n list r (λ i. check_reference t (bundle_of s) i n (path_at s x))) (sym e) c
 
-pub of_size : (s : List ℕ) (n x : ℕ) {list : List ℕ} {r : Check} (tag : Bool) → tag ≡ false → Checked s n list r (λ i. check_array_size_layout_cycle (bundle_of s) i n (path_at s x))
+pub of_size : (s : List ℕ) (n x : ℕ) {list : List ℕ} {r : prelude.Option Finding} (tag : Bool) → tag ≡ false → Checked s n list r (λ i. check_array_size_layout_cycle (bundle_of s) i n (path_at s x))
     → Checked s n list r (λ i. check_reference tag (bundle_of s) i n (path_at s x))
 of_size s n x {list} {r} tag e c = subst (λ t. Checked s n list r (λ i. check_reference t (bundle_of s) i n (path_at s x))) (sym e) c
 
@@ -259,19 +261,19 @@ module _ (s : List ℕ) (i n : ℕ) (list list' : List ℕ) (e : length list ≡
       ∙ record_alike kind i n names (take k list) (take k list') (take_alike k)
       ∙ sym (ap (λ xs. length (bytes xs)) (append-nil (violation_items (violation kind i n names (take k list')))))
 
-  all_alike : (c : Check) → (length (record_bytes (push (violation_of s i n list c) [])) ≡ length (record_bytes (push (violation_of s i n list' c) [])))
+  all_alike : (c : prelude.Option Finding) → (length (record_bytes (push (violation_of s i n list c) [])) ≡ length (record_bytes (push (violation_of s i n list' c) [])))
       × (length (push (violation_of s i n list c) []) ≡ length (push (violation_of s i n list' c) []))
-  all_alike check.Fine = (refl, refl)
-  all_alike (check.EnumForward t f) = (one_alike enum_forward 3 (t ∷ f ∷ []), refl)
-  all_alike (check.EnumCycle p k) = (one_alike enum_cycle k (path_at s p), refl)
-  all_alike (check.ArrayCycle p k) = (one_alike array_cycle k (path_at s p), refl)
-  all_alike (check.FieldForward p) = (one_alike field_forward 3 (path_at s p), refl)
-  all_alike check.VariableElement = (one_alike variable_element 1 [], refl)
-  all_alike check.JaggedReference = (one_alike jagged_reference 2 [], refl)
-  all_alike check.JaggedInline = (one_alike jagged_inline 1 [], refl)
-  all_alike check.NestedJagged = (one_alike nested_jagged 1 [], refl)
+  all_alike prelude.None = (refl, refl)
+  all_alike (prelude.Some (EnumForward t f)) = (one_alike enum_forward 3 (t ∷ f ∷ []), refl)
+  all_alike (prelude.Some (EnumCycle p k)) = (one_alike enum_cycle k (path_at s p), refl)
+  all_alike (prelude.Some (ArrayCycle p k)) = (one_alike array_cycle k (path_at s p), refl)
+  all_alike (prelude.Some (FieldForward p)) = (one_alike field_forward 3 (path_at s p), refl)
+  all_alike (prelude.Some VariableElement) = (one_alike variable_element 1 [], refl)
+  all_alike (prelude.Some JaggedReference) = (one_alike jagged_reference 2 [], refl)
+  all_alike (prelude.Some JaggedInline) = (one_alike jagged_inline 1 [], refl)
+  all_alike (prelude.Some NestedJagged) = (one_alike nested_jagged 1 [], refl)
 
-module _ {s : List ℕ} {n : ℕ} {wanted : Bool} {list : List ℕ} {c : Check} {o : ℕ → Option Violation} (w : IfWanted wanted list (λ l. Checked s n l c o)) where
+module _ {s : List ℕ} {n : ℕ} {wanted : Bool} {list : List ℕ} {c : prelude.Option Finding} {o : ℕ → Option Violation} (w : IfWanted wanted list (λ l. Checked s n l c o)) where
   pub meant_fits : Fitting s (length list) c
   meant_fits = subst (λ k. Fitting s k c) w.size w.holds.fits
 

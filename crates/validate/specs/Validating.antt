@@ -1,21 +1,23 @@
 -- What the validators write.
-use Rattle.std.specs.Prelude.{ℕ, ◌+◌, ◌*◌, ◌-◌, ◌≤◌, ◌<◌, Bool, true, false, List, ◌≡◌, ltb, length, get_or, take}
-use Rattle.std.proofs.Math.Option.{Option, some}
+use Rattle.std.specs.Prelude.{Ok}
+use Rattle.std.specs.Prelude.{ℕ, ◌+◌, ◌*◌, ◌-◌, ◌≤◌, ◌<◌, Bool, true, false, List, [], ◌∷◌, ◌≡◌, length, get_or, take}
+use Rattle.std.proofs.Math.Option.{Option}
 use Rattle.names.specs.Documents.{bytes}
 use Rattle.meaning.specs.Limits.{definition_limit, edge_limit}
-use Rattle.meaning.specs.Lists.{filter_map, flat_map, only_if}
+use Rattle.meaning.specs.Lists.{filter_map, flat_map}
 use Rattle.meaning.specs.Report.{violation_items}
 use Rattle.meaning.specs.Tree.{Bundle}
 use Rattle.meaning.specs.Violations.{Violation, violation, check_enum_tag_layout_cycle, check_array_size_layout_cycle, validate_type}
 use Rattle.violation.specs.declared.Path.{Path}
 use Rattle.violation.specs.declared.Record.{Record}
+use Rattle.violation.specs.declared.Kind.{Kind}
+use Rattle.violation.specs.Kinds.{type_number}
 use Rattle.violation.specs.Records.{Puts, padded}
-use Rattle.checks.specs.declared.Check.{Check}
+use Rattle.checks.specs.declared.Finding.{Finding}
 use Rattle.containers.specs.Containers.{Defined}
-use Rattle.checks.specs.Checks.{violation_of, Fitting}
+use Rattle.checks.specs.Checks.{violation_found, FindingFits}
 use Rattle.meaning.specs.Reader.{little}
 use Rattle.meaning.specs.ReadExpr.{read_expr}
-use Rattle.bundle.specs.declared.Step.TheVariants.{Next}
 use Rattle.bundle.specs.View.{step_of}
 use Rattle.bundle.specs.Definitions.{bundle_of, type_at}
 use Rattle.sizes.specs.Scan.{paths_from}
@@ -23,22 +25,21 @@ use Rattle.validate.specs.declared.Position.{Position}
 use Rattle.validate.specs.declared.Subject.{Subject}
 use Rattle.validate.specs.declared.References.{References}
 
--- r is the record of what a check found, and has the type 0 where it found nothing
-pub record Recorded (s : List ℕ) (c : Check) (r : Record) : Type 0 where
+-- r is the record of what was found, with a chain of k names
+pub record Recorded (s : List ℕ) (f : Finding) (r : Record) (k : ℕ) : Type 0 where
   pub names : List ℕ
   pub few : length names ≤ 4
   pub path : r.path ≡ padded names
-  pub kind : r.kind ≤ 8
-  pub is : (i n : ℕ) (list : List ℕ) → violation_of s i n list c ≡ only_if (ltb 0 r.kind) (some (violation r.kind i n names (take r.length list)))
-  pub room : (m : ℕ) → Fitting s m c → (r.length ≤ edge_limit + 1) × (r.length ≤ m)
+  pub is : (i n : ℕ) (list : List ℕ) → violation_found s i n list f ≡ violation (type_number r.kind) i n names (take k list)
+  pub room : (m : ℕ) → FindingFits s m f → (k ≤ edge_limit + 1) × (k ≤ m)
 
--- a record of this type, with this path and a chain of so many names
-abbrev pub record_with : ℕ → Path → ℕ → Record
-record_with kind path size = record { kind = kind; path = path; length = size }
+-- a record of this type, with this path
+abbrev pub record_with : Kind → Path → Record
+record_with kind path = record { kind = kind; path = path }
 
 -- a path of so many names, at most two
 abbrev pub path_of_two : ℕ → ℕ → ℕ → Path
-path_of_two count first second = record { count = count; first = first; second = second; third = 0; fourth = 0 }
+path_of_two count first second = record { count = count; names = first ∷ second ∷ 0 ∷ 0 ∷ [] }
 
 -- the bytes of the records of violations
 abbrev pub record_bytes : List Violation → List ℕ
@@ -68,7 +69,7 @@ pub record Among (s : List ℕ) (subject : Subject) : Type 0 where
 pub record ReferencesAt (s : List ℕ) (at : ℕ) (tag : Bool) (r : References) : Type 0 where
   pub which : r.tag ≡ tag
   pub starts : r.at ≡ at
-  pub ends : Next r.end ≡ step_of (read_expr 23 s at)
+  pub ends : Ok r.end ≡ step_of (read_expr 23 s at)
 
 -- the check of one reference: of an enum's tag, or of an array's size
 abbrev pub check_reference : Bool → Bundle → ℕ → ℕ → List ℕ → Option Violation

@@ -15,13 +15,13 @@ ghost use Rattle.sizes.specs.Tests.{Acyclic, Kept};
 ghost use Rattle.violation.specs.Records.{padded};
 ghost use Rattle.field_index.specs.Noted.{DefinitionsNoted};
 ghost use Rattle.containers.specs.Containers.{Known};
-ghost use Rattle.checks.specs.Checks.{violation_of, Fitting, Checked, EdgesPrepared};
+ghost use Rattle.checks.specs.Checks.{violation_of, FindingFits, Fitting, Checked, EdgesPrepared};
 ghost use Rattle.validate.specs.Validating.{Among, Recorded, ReferencesAt, Wrote, Room, record_with, path_of_two, check_reference, found_in};
 
-use bundle::{Layout, Step};
-use checks::{Check, Reference};
+use bundle::Layout;
+use checks::Finding;
 use cycles::Asked;
-use violation::{Path, Record};
+use violation::{Kind, Path, Record};
 
 // How far a report is written: the place behind it, and the count of its violations.
 #[derive(Clone, Copy)]
@@ -51,16 +51,8 @@ pub fn references_of(s: &[u8], at: usize, tag: bool) -> References
     requires { Reads (read_expr 23 s.now at) }
     ensures { ReferencesAt s.now at tag result }
 {
-    let step = bundle::expr_at(s, at, bundle::DEPTH_INSIDE);
-    let end = match step {
-        Step::Next(next) => next,
-        Step::Refused(_) => at,
-    };
-    References {
-        tag: tag,
-        at: at,
-        end: end,
-    }
+    let end = bundle::expr_at(s, at, bundle::DEPTH_INSIDE).unwrap_or(at);
+    References { tag, at, end }
 }
 
 // Name k of the n names of the reference at `path`, and 0 where there are no more.
@@ -82,59 +74,53 @@ fn read_path(s: &[u8], path: usize) -> Path
     let n = sizes::path_length(s, path);
     Path {
         count: n as u8,
-        first: name_of(s, path, n, 0),
-        second: name_of(s, path, n, 1),
-        third: name_of(s, path, n, 2),
-        fourth: name_of(s, path, n, 3),
+        names: [
+            name_of(s, path, n, 0),
+            name_of(s, path, n, 1),
+            name_of(s, path, n, 2),
+            name_of(s, path, n, 3),
+        ],
     }
 }
 
 // The record of a violation with a written path.
-fn written(s: &[u8], kind: u8, path: usize, size: usize) -> Record
+fn written(s: &[u8], kind: Kind, path: usize) -> Record
     requires { Fit s.now path }
-    ensures { (result ≡ record_with kind (padded (path_at s.now path)) size) × (length (path_at s.now path) ≤ 4) }
+    ensures { (result ≡ record_with kind (padded (path_at s.now path))) × (length (path_at s.now path) ≤ 4) }
 {
-    let names = read_path(s, path);
     Record {
-        kind: kind,
-        path: names,
-        length: size,
+        kind,
+        path: read_path(s, path),
     }
 }
 
 // The record of a violation with a path of two names, or of none where they are 0.
-fn unwritten(kind: u8, count: u8, first: u16, second: u16, size: usize) -> Record
-    ensures { result ≡ record_with kind (path_of_two count first second) size }
+fn unwritten(kind: Kind, count: u8, first: u16, second: u16) -> Record
+    ensures { result ≡ record_with kind (path_of_two count first second) }
 {
-    let path = Path {
-        count: count,
-        first: first,
-        second: second,
-        third: 0,
-        fourth: 0,
-    };
     Record {
-        kind: kind,
-        path: path,
-        length: size,
+        kind,
+        path: Path {
+            count,
+            names: [first, second, 0, 0],
+        },
     }
 }
 
-// What the record of a violation says, and the type 0 where there is none.
-fn record_of(s: &[u8], check: Check) -> Record
-    requires { (room : ℕ) × Fitting s.now room check }
-    ensures { Recorded s.now check result }
+// What the record of a violation says, and how many names its chain has.
+fn record_of(s: &[u8], finding: Finding) -> (Record, usize)
+    requires { (room : ℕ) × FindingFits s.now room finding }
+    ensures { Recorded s.now finding result.0 result.1 }
 {
-    match check {
-        Check::Fine => unwritten(0, 0, 0, 0, 0),
-        Check::EnumForward(t, f) => unwritten(1, 2, t, f, 3),
-        Check::EnumCycle(p, n) => written(s, 2, p, n),
-        Check::ArrayCycle(p, n) => written(s, 3, p, n),
-        Check::FieldForward(p) => written(s, 4, p, 3),
-        Check::VariableElement => unwritten(5, 0, 0, 0, 1),
-        Check::JaggedReference => unwritten(6, 0, 0, 0, 2),
-        Check::JaggedInline => unwritten(7, 0, 0, 0, 1),
-        Check::NestedJagged => unwritten(8, 0, 0, 0, 1),
+    match finding {
+        Finding::EnumForward(t, f) => (unwritten(Kind::EnumForward, 2, t, f), 3),
+        Finding::EnumCycle(p, n) => (written(s, Kind::EnumCycle, p), n),
+        Finding::ArrayCycle(p, n) => (written(s, Kind::ArrayCycle, p), n),
+        Finding::FieldForward(p) => (written(s, Kind::FieldForward, p), 3),
+        Finding::VariableElement => (unwritten(Kind::VariableElement, 0, 0, 0), 1),
+        Finding::JaggedReference => (unwritten(Kind::JaggedReference, 0, 0, 0), 2),
+        Finding::JaggedInline => (unwritten(Kind::JaggedInline, 0, 0, 0), 1),
+        Finding::NestedJagged => (unwritten(Kind::NestedJagged, 0, 0, 0), 1),
     }
 }
 
@@ -146,20 +132,20 @@ pub fn put_check(
     position: Position,
     i: usize,
     name: u16,
-    check: Check,
+    check: Option<Finding>,
     list: &[u16],
 ) -> Position
     requires i_lt_definition_limit { (i < definition_limit) × Fitting s.now (length list.now) check }
     requires room { Room position (push (violation_of s.now i name list.now check) []) }
     ensures { Wrote (push (violation_of s.now i name list.now check) []) out.old position out.new result }
 {
-    let found = record_of(s, check);
-    if found.kind == 0 {
+    let Some(finding) = check else {
         return position;
-    }
-    let at = violation::put_violation(out, position.at, i as u16, name, found, list);
+    };
+    let (found, n) = record_of(s, finding);
+    let at = violation::put_violation(out, position.at, i as u16, name, found, &list[..n]);
     Position {
-        at: at,
+        at,
         count: position.count + 1,
     }
 }
@@ -169,13 +155,13 @@ fn check_reference(
     s: &[u8],
     places: &[u16],
     layout: Layout,
-    kept: &mut [u8; bundle::DEFINITIONS],
+    kept: &mut [Option<bool>; bundle::DEFINITIONS],
     known: &mut [u16; bundle::DEFINITIONS],
     tag: bool,
     asked: Asked,
     edges: &[u16],
     work: &mut [u16],
-) -> Check
+) -> Option<Finding>
     requires edges_prepared { EdgesPrepared s.now layout edges.now × Lent layout.edges edges.now asked.name work.old × Fit s.now asked.path }
     requires layout_of { LayoutOf s.now layout places.now × Acyclic s.now × Kept s.now false kept.old × DefinitionsNoted s.now places.now layout.definitions × Known s.now asked.name known.old }
     ensures { IfWanted asked.wanted (list_in layout.edges work.new) (λ list. Checked s.now asked.name list result (λ i. check_reference tag (bundle_of s.now) i asked.name (path_at s.now asked.path))) × Kept s.now false kept.new × Lent layout.edges edges.now asked.name work.new × Known s.now asked.name known.new }
@@ -194,7 +180,7 @@ pub fn validate_references(
     s: &[u8],
     places: &[u16],
     layout: Layout,
-    kept: &mut [u8; bundle::DEFINITIONS],
+    kept: &mut [Option<bool>; bundle::DEFINITIONS],
     subject: Subject,
     references: References,
     edges: &[u16],
@@ -216,13 +202,12 @@ pub fn validate_references(
     let mut next = references.at;
     let mut reached = position;
     while next < end {
-        let reference = checks::reference_at(s, next, end);
-        let Reference::At(path, after) = reference else {
+        let Some((path, after)) = checks::reference_at(s, next, end) else {
             return reached;
         };
         let asked = Asked {
-            name: name,
-            path: path,
+            name,
+            path,
             wanted: reached.at < out.len(),
         };
         let check = check_reference(
@@ -236,9 +221,8 @@ pub fn validate_references(
             edges,
             work,
         );
-        match check {
-            Check::Fine => {}
-            _ => reached = put_check(s, out, reached, i, name, check, &work[list..]),
+        if check.is_some() {
+            reached = put_check(s, out, reached, i, name, check, &work[list..]);
         }
         next = after;
     }

@@ -10,7 +10,6 @@ ghost use Rattle.notes.specs.Notes.{Noted};
 ghost use Rattle.validate.specs.Validating.{Among, Wrote, Room, violations_of};
 
 use bundle::Layout;
-use checks::Check;
 use validate::{Position, Subject};
 
 // Writes the violations of an enum: for each reference of its tag.
@@ -18,7 +17,7 @@ pub fn validate_enum_tag_constraints(
     s: &[u8],
     places: &[u16],
     layout: Layout,
-    kept: &mut [u8; bundle::DEFINITIONS],
+    kept: &mut [Option<bool>; bundle::DEFINITIONS],
     subject: Subject,
     edges: &[u16],
     work: &mut [u16],
@@ -41,8 +40,8 @@ pub fn validate_array_size_constraints(
     s: &[u8],
     places: &[u16],
     layout: Layout,
-    kept: &mut [u8; bundle::DEFINITIONS],
-    nested: &mut [u8; bundle::DEFINITIONS],
+    kept: &mut [Option<bool>; bundle::DEFINITIONS],
+    nested: &mut [Option<bool>; bundle::DEFINITIONS],
     subject: Subject,
     edges: &[u16],
     work: &mut [u16],
@@ -96,26 +95,16 @@ pub fn validate_struct_field_constraints(
     let name = subject.name;
     let mut seen = [0u16; bundle::DEFINITIONS];
     let mut next = subject.at + 12;
-    let mut left = count;
     let mut reached = position;
-    while 0 < left {
+    for j in 0..count {
         let field = fields::field_at(s, next, bundle::DEPTH_INSIDE);
         let check = forward::check_field_layout_dependency(
-            s,
-            places,
-            layout,
-            &mut seen,
-            name,
-            count - left,
-            field,
-            list,
+            s, places, layout, &mut seen, name, j, field, list,
         );
-        match check {
-            Check::Fine => {}
-            _ => reached = validate::put_check(s, out, reached, i, name, check, list),
+        if check.is_some() {
+            reached = validate::put_check(s, out, reached, i, name, check, list);
         }
         next = field.next;
-        left -= 1;
     }
     reached
 }

@@ -22,10 +22,11 @@ use Rattle.demands.proofs.Answering.{due_refused, kept_due}
 use Rattle.fixed_meaning.specs.Value.{Value, valued, unvalued, value_of}
 use Rattle.fixed_meaning.specs.Valuing.{array_value, value_due, valuing}
 use Rattle.fixed_laws.proofs.Evaluating.{has_valued, no_valued, value_is, number_is, number_range}
-use Rattle.values.specs.declared.Valued.{Valued}
-use Rattle.values.specs.declared.Valued.TheVariants.{Is, Refused}
+use Rattle.std.specs.Prelude.{Result, Ok, Err}
+use Rattle.refusal.specs.declared.Refusal.{Refusal}
+use Rattle.refusal.specs.Numbers.{number}
 use Rattle.values.specs.Meant.{value_meant}
-use Rattle.value_demand.specs.Demand.{HasSize, an_array, SizeIs, Unvalued, no_array, no_value, KnownNumber, ValueDemand}
+use Rattle.value_demand.specs.Demand.{HasSize, an_array, SizeIs, Unvalued, no_array, no_value, KnownNumber, RefusedWith, ValueDemand}
 
 -- A value as an outcome, by which the laws of calls apply.
 
@@ -124,54 +125,49 @@ unvalued_is {o} (no_array n) = go (sized o)
 
 -- The answer.
 
-is_valued : (r : Valued) (z : ℤ) → value_meant r ≡ valued z → r ≡ Is z
+is_valued : (r : Result ℤ Refusal) (z : ℤ) → value_meant r ≡ valued z → r ≡ Ok z
 unfolding value_meant
-is_valued (Is y) z e = let q : y ≡ z = cc in ap Is q
-is_valued (Refused k) z e = let q : ◌≡◌ {A = ℕ} 0 1 = cc in absurd (omega arith)
+is_valued (Ok y) z e = let q : y ≡ z = cc in ap Ok q
+is_valued (Err x) z e = let q : ◌≡◌ {A = ℕ} 0 1 = cc in absurd (omega arith)
 
-is_refused : (r : Valued) (k : ℕ) → value_meant r ≡ unvalued k → r ≡ Refused k
+is_refused : (r : Result ℤ Refusal) (k : ℕ) → value_meant r ≡ unvalued k → RefusedWith r k
 unfolding value_meant
-is_refused (Is y) k e = let q : ◌≡◌ {A = ℕ} 0 1 = cc in absurd (omega arith)
-is_refused (Refused j) k e = let q : j ≡ k = cc in ap Refused q
+is_refused (Ok y) k e = let q : ◌≡◌ {A = ℕ} 0 1 = cc in absurd (omega arith)
+is_refused (Err x) k e = let q : number x ≡ k = cc in (x, (refl, q))
+
+refused_is : (r : Result ℤ Refusal) (k : ℕ) → RefusedWith r k → value_meant r ≡ unvalued k
+unfolding value_meant
+refused_is r k h = ap value_meant h.1.0 ∙ ap unvalued h.1.1
 
 same_number : {j k : ℕ} → unvalued j ≡ unvalued k → j ≡ k
 same_number e = cc
 
-module _ (i : ℕ) (s : List ℕ) (r : Valued) (bytes : Bytes s) (d : value_meant r ≡ valuing i s) where
-  numbered : (k : ℕ) → r ≡ Refused k → KnownNumber k
-  unfolding value_meant
-  numbered k e = ⊎_elim kept other (cases s bytes).either
-    where
-      is : unvalued k ≡ valuing i s
-      is = sym (ap value_meant e) ∙ d
-
-      kept : ((b : Bundle) × Keeps s b) → KnownNumber k
-      kept b = go (due (type_at b.0 i))
-        where
-          go : Due (type_at b.0 i) → KnownNumber k
-          go (given z v p) = let t : unvalued k ≡ valued z = is ∙ kept_value i s b.0 b.1 ∙ p in let q : ◌≡◌ {A = ℕ} 0 1 = cc in absurd (omega arith)
-          go (refused_with j u n p) = subst KnownNumber (sym (same_number (is ∙ kept_value i s b.0 b.1 ∙ p))) n
-
-      other : ((b : Bundle) → Keeps s b → ⊥) → KnownNumber k
-      other n =
-          let z : k ≡ number_of s = same_number (is ∙ other_value i s bytes n) in
-          inl (omega (arith, z, (one_to_eight s).0), omega (arith, z, (one_to_eight s).1))
-
-  pub value_demand : ValueDemand i s r
-  value_demand = record {
-    every = λ b k z v. is_valued r z (d ∙ kept_value i s b k ∙ size_value v.array ∙ has_valued v.value);
-    unvalued = λ b k j u. is_refused r j (d ∙ kept_value i s b k ∙ unvalued_is u);
-    other = λ n. (number_of s, (refused_number s bytes n, is_refused r (number_of s) (d ∙ other_value i s bytes n)));
-    cases = cases s bytes;
-    either = λ b k. one_of (due (type_at b i));
-    numbered = numbered;
-  }
-    where
-      one_of : {o : Option Ty} → Due o → ((z : ℤ) × SizeIs o z) ⊎ ((k : ℕ) × Unvalued o k)
-      one_of (given z v p) = inl (z, v)
-      one_of (refused_with k u n p) = inr (k, u)
-
--- the numbers of the call, by its code in C
+-- the numbers of the call, by its meaning
 pub value_number : (i : ℕ) (s : List ℕ) (k : ℕ) → Bytes s → valuing i s ≡ unvalued k → KnownNumber k
-unfolding value_meant
-value_number i s k bytes e = numbered i s (Refused k) bytes (sym e) k refl
+value_number i s k bytes e = ⊎_elim kept other (cases s bytes).either
+  where
+    kept : ((b : Bundle) × Keeps s b) → KnownNumber k
+    kept b = go (due (type_at b.0 i))
+      where
+        go : Due (type_at b.0 i) → KnownNumber k
+        go (given z v p) = let t : unvalued k ≡ valued z = sym e ∙ kept_value i s b.0 b.1 ∙ p in let q : ◌≡◌ {A = ℕ} 0 1 = cc in absurd (omega arith)
+        go (refused_with j u n p) = subst KnownNumber (sym (same_number (sym e ∙ kept_value i s b.0 b.1 ∙ p))) n
+
+    other : ((b : Bundle) → Keeps s b → ⊥) → KnownNumber k
+    other n =
+        let z : k ≡ number_of s = same_number (sym e ∙ other_value i s bytes n) in
+        inl (omega (arith, z, (one_to_eight s).0), omega (arith, z, (one_to_eight s).1))
+
+pub value_demand : (i : ℕ) (s : List ℕ) (r : Result ℤ Refusal) → Bytes s → value_meant r ≡ valuing i s → ValueDemand i s r
+value_demand i s r bytes d = record {
+  every = λ b k z v. is_valued r z (d ∙ kept_value i s b k ∙ size_value v.array ∙ has_valued v.value);
+  unvalued = λ b k j u. is_refused r j (d ∙ kept_value i s b k ∙ unvalued_is u);
+  other = λ n. (number_of s, (refused_number s bytes n, is_refused r (number_of s) (d ∙ other_value i s bytes n)));
+  cases = cases s bytes;
+  either = λ b k. one_of (due (type_at b i));
+  numbered = λ k h. value_number i s k bytes (sym d ∙ refused_is r k h);
+}
+  where
+    one_of : {o : Option Ty} → Due o → ((z : ℤ) × SizeIs o z) ⊎ ((k : ℕ) × Unvalued o k)
+    one_of (given z v p) = inl (z, v)
+    one_of (refused_with k u n p) = inr (k, u)

@@ -3,10 +3,10 @@
 
 ghost use Rattle.value_demand.specs.Demand.{ValueDemand};
 
-use values::Valued;
+use refusal::Refusal;
 
 // The value of the size of a definition that is an array.
-pub fn size_value(bundle: &[u8], definition: usize) -> Valued
+pub fn size_value(bundle: &[u8], definition: usize) -> Result<i64, Refusal>
     ensures { ValueDemand definition bundle.now result }
 {
     size_value::size_value(bundle, definition)

@@ -1,6 +1,3 @@
-pub mod Ranges
-pub mod Sums
-pub mod Products
-pub mod Divisions
+pub mod Arithmetic
 pub mod Literals
 pub mod Operations

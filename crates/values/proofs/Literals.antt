@@ -1,80 +1,44 @@
--- Literals, each in the form in which the code returns it.
+-- Literals.
 use Prim.Native.Nat.{ℕ, zero, suc, ◌-◌, ◌*◌, ◌≤◌, ◌<◌}
 use native.Mathlib.Omega.{arith}
-use mathlib.Core.Path.{◌≡◌, refl, ap, ◌∙◌}
-use lib.IntN.{pos, negsuc, ◌-ℤ◌}
+use mathlib.Core.Bool.{Bool, true, false}
+use mathlib.Core.List.{[], ◌∷◌}
+use types.Run.{OneOf}
+use mathlib.Core.Path.{◌≡◌, refl, ap}
+use lib.Dec.{ltb, ltb→lt}
+use lib.IntN.{ℤ, pos, negsuc, nat_abs, ◌+ℤ◌, ◌-ℤ◌}
+use lib.Signed.{◌<ℤ◌}
 use mir.Syntax.{w64}
-use mir.Val.{SFits, to_z}
+use mir.Val.{SFits, to_z, of_z}
 use mir.ValLaws.{to_z-of_z}
-use borrow.Author.Tests.{le-leb, lt-leb, lt-ltb, le-ltb}
+use borrow.Author.Tests.{ltb-true, ltb-false, le-leb, lt-leb, lt-ltb, le-ltb}
 use Rattle.fixed_meaning.specs.Value.{ranged, signed_limit, complement, literal_value}
-use Rattle.values.specs.declared.Valued.TheVariants.{Is, Refused}
+use Rattle.refusal.specs.declared.Refusal.TheVariants.{NotCovered}
+use Rattle.std.specs.Prelude.{Err}
 use Rattle.values.specs.Meant.{value_meant}
-use Rattle.values.proofs.Ranges.{plus_out, minus_out}
-use Rattle.values.proofs.Sums.{back, returned}
 
--- n, and one below -n
-pub plus_over : (n : ℕ) → 9223372036854775807 < n → value_meant (Refused 14) ≡ ranged (pos n)
-unfolding value_meant
-plus_over n h = plus_out n h
-
-pub minus_over : (n : ℕ) → 9223372036854775807 < n → value_meant (Refused 14) ≡ ranged (negsuc n)
-unfolding value_meant
-minus_over n h = minus_out n h
-
-plus_fits : (n : ℕ) → n ≤ 9223372036854775807 → SFits w64 (pos n)
-plus_fits n h = record { sfits = omega arith }
-
-pub plus_is : (n : ℕ) → n ≤ 9223372036854775807 → value_meant (Is (to_z w64 n)) ≡ ranged (pos n)
-plus_is n h = returned (pos n) (pos n) (plus_fits n h) refl
-
-below : (n : ℕ) → n ≤ 9223372036854775807 → negsuc 0 -ℤ to_z w64 n ≡ negsuc n
-below n h = ap (negsuc 0 -ℤ◌) (to_z-of_z w64 (pos n) (plus_fits n h)) ∙ go n
+-- two's complement, by the distance of its least number, which is negative
+from_distance : (z : ℤ) (n : ℕ) → z <ℤ pos 0 → nat_abs z ≤ n → z +ℤ pos (n - nat_abs z) ≡ complement (nat_abs z) n
+unfolding complement
+from_distance (pos a) n l h = absurd (omega (arith, ltb→lt a 0 l.lt))
+from_distance (negsuc a) n l h = rw (le-ltb n (suc a) h) (go (2 * suc a) refl)
   where
-    go : (n : ℕ) → negsuc 0 -ℤ pos n ≡ negsuc n
-    go zero = refl
-    go (suc n) = ap negsuc (omega arith)
+    go : (m : ℕ) → m ≡ 2 * suc a → negsuc a +ℤ pos (n - suc a) ≡ pos n -ℤ pos m
+    go zero e = absurd (omega arith)
+    go (suc m) e = by_test (ltb n (suc m)) refl
+      where
+        by_test : (t : Bool) → ltb n (suc m) ≡ t → negsuc a +ℤ pos (n - suc a) ≡ pos n -ℤ pos (suc m)
+        by_test true d = rw (lt-ltb (n - suc a) (suc a) (omega (arith, ltb-true n (suc m) d)), d) (ap negsuc (omega arith))
+        by_test false d = rw (le-ltb (n - suc a) (suc a) (omega (arith, ltb-false n (suc m) d)), d) (ap pos (omega arith))
 
-pub minus_fits : (n : ℕ) → n ≤ 9223372036854775807 → SFits w64 (negsuc 0 -ℤ to_z w64 n)
-minus_fits n h = rw (below n h) (record { sfits = omega arith })
-
-pub minus_is : (n : ℕ) → n ≤ 9223372036854775807 → value_meant (Is (back (negsuc 0 -ℤ to_z w64 n))) ≡ ranged (negsuc n)
-minus_is n h = returned (negsuc 0 -ℤ to_z w64 n) (negsuc n) (minus_fits n h) (below n h)
-
--- two's complement
-module _ (limit n : ℕ) where
-  pub before_limit : n < limit → ranged (pos n) ≡ ranged (complement limit n)
+-- the same, where the number has come back from its bits
+module _ (z : ℤ) (f : SFits w64 z) (limit n : ℕ) (e : limit ≡ nat_abs (to_z w64 (of_z w64 z))) where
+  pub before_limit : n < limit → ranged (pos n) ≡ ranged (complement (nat_abs z) n)
   unfolding complement
-  before_limit h = rw (lt-ltb n limit h)
+  before_limit h = rw (lt-ltb n (nat_abs z) (rw (e, to_z-of_z w64 z f) at h))
 
-  pub twice_limit : limit ≤ n → limit ≤ n - limit → ranged (pos (n - limit - limit)) ≡ ranged (complement limit n)
-  unfolding complement
-  twice_limit h k = rw (le-ltb n limit h) (ap ranged (go (2 * limit) refl))
-    where
-      go : (m : ℕ) → m ≡ 2 * limit → pos (n - limit - limit) ≡ pos n -ℤ pos m
-      go zero e = ap pos (omega arith)
-      go (suc m) e = rw (le-ltb n (suc m) (omega arith)) (ap pos (omega arith))
-
-  pub after_limit : limit ≤ n → n - limit < limit → ranged (negsuc (limit - 1 - (n - limit))) ≡ ranged (complement limit n)
-  unfolding complement
-  after_limit h k = rw (le-ltb n limit h) (ap ranged (go (2 * limit) refl))
-    where
-      go : (m : ℕ) → m ≡ 2 * limit → negsuc (limit - 1 - (n - limit)) ≡ pos n -ℤ pos m
-      go zero e = absurd (omega arith)
-      go (suc m) e = rw (lt-ltb n (suc m) (omega arith)) (ap negsuc (omega arith))
-
--- the first number that is negative
-pub limit_5 : (k : ℕ) → k ≡ 5 → 9223372036854775808 ≡ signed_limit k
-limit_5 k e = rw e
-
-pub limit_6 : (k : ℕ) → k ≡ 6 → 2147483648 ≡ signed_limit k
-limit_6 k e = rw e
-
-pub limit_7 : (k : ℕ) → k ≡ 7 → 32768 ≡ signed_limit k
-limit_7 k e = rw e
-
-pub limit_8 : (k : ℕ) → k ≡ 8 → 128 ≡ signed_limit k
-limit_8 k e = rw e
+  pub from_limit : z <ℤ pos 0 → limit ≤ n → to_z w64 (of_z w64 z) +ℤ pos (n - limit) ≡ complement (nat_abs z) n
+  from_limit l h = rw (e, to_z-of_z w64 z f) (from_distance z n l (rw (e, to_z-of_z w64 z f) at h))
 
 -- by the kind
 module _ (k n : ℕ) where
@@ -82,10 +46,10 @@ module _ (k n : ℕ) where
   unfolding literal_value
   unsigned h = rw (le-leb k 4 h)
 
-  pub signed : 4 < k → k ≤ 8 → (limit : ℕ) → limit ≡ signed_limit k → ranged (complement limit n) ≡ literal_value k n
+  pub signed : (j limit : ℕ) → OneOf (j ∷ []) k → signed_limit j ≡ limit → 4 < j → j ≤ 8 → ranged (complement limit n) ≡ literal_value k n
   unfolding literal_value
-  signed h g limit e = rw (lt-leb k 4 h, le-leb k 8 g) (ap (λ l. ranged (complement l n)) e)
+  signed j limit e d l h = rw (e, lt-leb j 4 l, le-leb j 8 h, d)
 
-  pub no_literal : 4 < k → 8 < k → value_meant (Refused 15) ≡ literal_value k n
+  pub no_literal : 8 < k → value_meant (Err NotCovered) ≡ literal_value k n
   unfolding literal_value value_meant
-  no_literal h g = rw (lt-leb k 4 h, lt-leb k 8 g)
+  no_literal h = rw (lt-leb k 4 (omega arith), lt-leb k 8 h)

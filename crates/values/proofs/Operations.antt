@@ -1,23 +1,25 @@
 -- The kinds that are covered, and what each makes of two values.
 use Prim.Native.Nat.{ℕ, ◌+◌, ◌-◌, ◌≤◌, ◌<◌}
 use native.Mathlib.Omega.{arith}
-use mathlib.Core.Bool.{Bool, true, false, not}
-use mathlib.Core.List.{List, [], ◌∷◌}
-use mathlib.Core.Option.{some}
+use mathlib.Core.Bool.{Bool, true, false, not, true≢false}
+use mathlib.Core.List.{[], ◌∷◌}
+use mathlib.Core.Option.{Option, none, some}
 use types.Run.{OneOf}
 use mathlib.Core.Path.{◌≡◌, refl, sym, ap, ap₂, ◌∙◌}
-use lib.Dec.{T, eqb}
+use lib.Dec.{T, eqb, ltb}
 use lib.IntN.{ℤ, pos, negsuc, pos-ne-negsuc}
 use lib.Signed.{mag}
 use mir.Syntax.{w64}
 use mir.Val.{SFits, to_z, of_z}
 use mir.ValLaws.{to_z-of_z}
-use borrow.Author.Tests.{eqb-true, eqb-false, eq-eqb, ne_eqb}
-use Rattle.fixed_meaning.specs.Value.{Value, valued, eq_z, truth, operations, operation_of, applied, operated_by, operated}
+use borrow.Author.Tests.{ltb-true, ltb-false, eqb-true, eqb-false, eq-eqb, ne_eqb}
+use Rattle.std.specs.Prelude.{Ok, Err}
+use Rattle.std.specs.Int.{from_bool}
+use Rattle.fixed_meaning.specs.Value.{Value, valued, unvalued, eq_z, truth, operations, operation_of, applied, operated_by, operated}
 use Rattle.fixed_meaning.proofs.Every.{every, every_at}
-use Rattle.values.specs.declared.Valued.TheVariants.{Is, Refused}
+use Rattle.refusal.specs.declared.Refusal.TheVariants.{NotCovered}
 use Rattle.values.specs.Meant.{value_meant, covers}
-use Rattle.values.proofs.Sums.{back}
+use Rattle.values.proofs.Arithmetic.{back}
 
 passed : (b : Bool) → T b → true ≡ b
 passed true t = refl
@@ -46,17 +48,14 @@ pub covered_tests : (k : ℕ) → 0x1B ≤ k → k ≤ 0x20 → true ≡ covers 
 unfolding covers operation_of
 covered_tests k l h = covered_from 0x1B 6 k tt l (omega arith)
 
-pub uncovered_low : (k : ℕ) → k < 0x10 → false ≡ covers (operation_of operations k)
+pub uncovered : (k : ℕ) → k < 256 → (0x10 ≤ k → 0x14 < k) → (0x1B ≤ k → 0x20 < k) → false ≡ covers (operation_of operations k)
 unfolding covers operation_of
-uncovered_low k h = uncovered_from 0 0x10 k tt (omega arith) (omega arith)
-
-pub uncovered_bits : (k : ℕ) → 0x14 < k → k < 0x1B → false ≡ covers (operation_of operations k)
-unfolding covers operation_of
-uncovered_bits k l h = uncovered_from 0x15 6 k tt (omega arith) (omega arith)
-
-pub uncovered_high : (k : ℕ) → 0x20 < k → k < 256 → false ≡ covers (operation_of operations k)
-unfolding covers operation_of
-uncovered_high k l h = uncovered_from 0x21 223 k tt (omega arith) (omega arith)
+uncovered k b s t = go (ltb k 0x10) (ltb k 0x1B) refl refl
+  where
+    go : (x y : Bool) → ltb k 0x10 ≡ x → ltb k 0x1B ≡ y → false ≡ covers (operation_of operations k)
+    go true y d e = uncovered_from 0 0x10 k tt (omega arith) (omega (arith, ltb-true k 0x10 d))
+    go false true d e = uncovered_from 0x15 6 k tt (s (ltb-false k 0x10 d)) (omega (arith, ltb-true k 0x1B e))
+    go false false d e = uncovered_from 0x21 223 k tt (t (ltb-false k 0x1B e)) (omega arith)
 
 -- both are the same number
 eq_z_same : (x y : ℤ) → x ≡ y → eq_z x y ≡ true
@@ -74,13 +73,10 @@ eq_z_other (negsuc a) (pos b) d = refl
 eq_z_other (negsuc a) (negsuc b) d = ne_eqb a b (λ e. d (ap negsuc e))
 
 -- 1 or 0
-pub true_is : (t : Bool) → t ≡ true → value_meant (Is (pos 1)) ≡ truth t
+pub truth_is : (z : ℤ) (t : Bool) → z ≡ pos (from_bool t) → value_meant (Ok (back z)) ≡ truth t
 unfolding value_meant
-true_is t e = rw e
-
-pub false_is : (t : Bool) → t ≡ false → value_meant (Is (pos 0)) ≡ truth t
-unfolding value_meant
-false_is t e = rw e
+truth_is z true e = rw e refl
+truth_is z false e = rw e refl
 
 -- tests of numbers that have come back from their bits
 module _ (l r : ℤ) (f : SFits w64 l) (g : SFits w64 r) where
@@ -101,14 +97,10 @@ module _ (k : ℕ) (l r : ℤ) where
   pub by_kind_back : SFits w64 l → SFits w64 r → (j : ℕ) (f : ℤ → ℤ → Value) → OneOf (j ∷ []) k → operation_of operations j ≡ some f → f (back l) (back r) ≡ operated k (valued l) (valued r)
   by_kind_back x y j f e o = ap₂ f (to_z-of_z w64 l x) (to_z-of_z w64 r y) ∙ by_kind j f e o
 
-  -- no kind of the table, the last first
-  abbrev NoneOf : List ℕ → Type 0
-  NoneOf [] = Unit {0}
-  NoneOf (j ∷ js) = NoneOf js × (OneOf (j ∷ []) k → ⊥)
-
-  pub other_kind : NoneOf (0x20 ∷ 0x1F ∷ 0x1E ∷ 0x1D ∷ 0x1C ∷ 0x1B ∷ 0x14 ∷ 0x13 ∷ 0x12 ∷ 0x11 ∷ 0x10 ∷ []) → value_meant (Refused 15) ≡ operated k (valued l) (valued r)
-  unfolding operated operated_by operation_of value_meant
-  other_kind m = rw (no 0x10 m.0.0.0.0.0.0.0.0.0.0.1, no 0x11 m.0.0.0.0.0.0.0.0.0.1, no 0x12 m.0.0.0.0.0.0.0.0.1, no 0x13 m.0.0.0.0.0.0.0.1, no 0x14 m.0.0.0.0.0.0.1, no 0x1B m.0.0.0.0.0.1, no 0x1C m.0.0.0.0.1, no 0x1D m.0.0.0.1, no 0x1E m.0.0.1, no 0x1F m.0.1, no 0x20 m.1)
+  pub other_kind : false ≡ covers (operation_of operations k) → value_meant (Err NotCovered) ≡ operated k (valued l) (valued r)
+  unfolding operated operated_by covers value_meant
+  other_kind = go (operation_of operations k)
     where
-      no : (j : ℕ) → (OneOf (j ∷ []) k → ⊥) → eqb j k ≡ false
-      no j d = ne_eqb j k (λ e. d (sym e))
+      go : (o : Option (ℤ → ℤ → Value)) → false ≡ covers o → unvalued 15 ≡ operated_by o (valued l) (valued r)
+      go none e = refl
+      go (some f) e = absurd (true≢false (sym e))

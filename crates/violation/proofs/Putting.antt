@@ -2,10 +2,11 @@
 use Prim.Native.Nat.{ℕ, suc, ◌+◌, ◌*◌, ◌≤◌, ◌<◌}
 use native.Mathlib.Omega.{arith}
 use native.Mathlib.Numerals.{add-one}
-use mathlib.Core.Path.{◌≡◌, refl, sym, ap, ap₂, subst, ◌∙◌}
-use mathlib.Core.List.{List, [], ◌∷◌, ◌++◌}
+use mathlib.Core.Path.{◌≡◌, refl, sym, ap, subst, ◌∙◌}
+use mathlib.Core.List.{List, [], ◌∷◌, ◌++◌, append-nil, map}
 use lib.ListN.{length, get_or, set, take, length-append}
-use lib.Seq.{set_out, sets, length-sets, length-take-le, take-suc}
+use Rattle.std.proofs.lemmas.List.{take_all}
+use lib.Seq.{set_out, sets, length-sets, take-suc}
 use Rattle.names.specs.Documents.{Item, byte, name, bytes}
 use Rattle.meaning.specs.Lists.{flat_map}
 use Rattle.meaning.specs.Report.{two_bytes, path_items, chain_items, violation_items}
@@ -28,39 +29,42 @@ puts_both {xs} {ys} {out} {out'} {out''} {at} {m} {r} p q = record {
     go : out' ≡ sets out at xs → m ≡ at + length xs → sets out' m ys ≡ sets out at (xs ++ ys)
     go e f = rw (e, f) (sets_append out at xs ys)
 
--- the names of a chain, each behind 7F
-abbrev pub links : List ℕ → List Item
-links chain = flat_map (λ n. byte 0x7F ∷ name n ∷ []) chain
+-- a name of a chain, behind 7F
+abbrev pub link : ℕ → List Item
+link n = byte 0x7F ∷ name n ∷ []
 
-links_more : (chain : List ℕ) (i : ℕ) → i < length chain → bytes (links (take (i + 1) chain)) ≡ bytes (links (take i chain)) ++ 0x7F ∷ bytes (two_bytes (get_or chain i 0))
-links_more chain i h =
-    rw (add-one, take-suc chain i 0, flat_map_append (λ n. byte 0x7F ∷ name n ∷ []) (take i chain) (get_or chain i 0 ∷ []))
-    (bytes_append (links (take i chain)) (byte 0x7F ∷ name (get_or chain i 0) ∷ []))
+-- the items f for each of the first i numbers are written, in k bytes for each
+pub record Each (f : ℕ → List Item) (k : ℕ) (xs out₀ : List ℕ) (next₀ : ℕ) (out : List ℕ) (next i : ℕ) : Type 0 where
+  pub far : next ≡ next₀ + k * i
+  pub puts : Puts (bytes (flat_map f (take i xs))) out₀ next₀ out next
 
--- the first i names of a chain are written
-pub record Linking (chain : List ℕ) (count : ℕ) (out₀ : List ℕ) (next₀ : ℕ) (out : List ℕ) (next i : ℕ) : Type 0 where
-  pub bound : i ≤ count
-  pub far : next ≡ next₀ + 3 * i
-  pub puts : Puts (bytes (links (take i chain))) out₀ next₀ out next
-
-pub linking_start : (chain : List ℕ) (count : ℕ) (out : List ℕ) (next : ℕ) → Linking chain count out next out next 0
-linking_start chain count out next = record { bound = omega arith; far = omega arith; puts = record { written = refl; behind = omega arith } }
-
-module _ {chain : List ℕ} {count : ℕ} {out₀ : List ℕ} {next₀ : ℕ} {out : List ℕ} {next i : ℕ} (c : Linking chain count out₀ next₀ out next i) (w : count ≤ length chain) where
-  pub linking_next : {out' out'' : List ℕ} {m r : ℕ} → i < count → Puts (0x7F ∷ []) out next out' m → Puts (bytes (two_bytes (get_or chain i 0))) out' m out'' r
-      → Linking chain count out₀ next₀ out'' r (i + 1)
-  linking_next {out'} {out''} {m} {r} h p q = record {
-    bound = omega arith;
-    far = omega (arith, p.behind, q.behind, c.far);
-    puts = subst (λ xs. Puts xs out₀ next₀ out'' r) (sym (links_more chain i (omega arith))) (puts_both c.puts (puts_both p q));
+module _ {f : ℕ → List Item} {k : ℕ} {xs out₀ : List ℕ} {next₀ : ℕ} {out : List ℕ} {next i : ℕ} (c : Each f k xs out₀ next₀ out next i) where
+  pub each_next : {out' : List ℕ} {r : ℕ} → i < length xs → r ≡ next + k → Puts (bytes (f (get_or xs i 0))) out next out' r → Each f k xs out₀ next₀ out' r (i + 1)
+  each_next {out'} {r} h e p = record {
+    far = omega (arith, e, c.far);
+    puts =
+        rw (add-one, take-suc xs i 0 h, flat_map_append f (take i xs) (get_or xs i 0 ∷ []), append-nil (f (get_or xs i 0)), bytes_append (flat_map f (take i xs)) (f (get_or xs i 0)))
+        (puts_both c.puts p);
   }
 
-  pub linking_end : {start : List ℕ} {at : ℕ} → count ≤ i → Puts (bytes (two_bytes count)) start at out₀ next₀ → Puts (bytes (chain_items (take count chain))) start at out next
-  linking_end {start} {at} h p =
-      let e : i ≡ count = omega (arith, c.bound) in
-      subst (λ xs. Puts xs start at out next)
-      (ap₂ (λ n k. bytes (two_bytes n) ++ bytes (links (take k chain))) (sym (length-take-le count chain w)) e)
-      (puts_both p c.puts)
+  pub each_end : length xs ≤ i → Puts (bytes (flat_map f xs)) out₀ next₀ out next
+  each_end h = rw (sym (take_all i xs h)) c.puts
+
+-- each number as a byte is the list itself
+each_byte : (xs : List ℕ) → bytes (flat_map (λ b. byte b ∷ []) xs) ≡ xs
+each_byte [] = refl
+each_byte (x ∷ xs) = ap (x ∷◌) (each_byte xs)
+
+pub puts_bytes : {out out' : List ℕ} {at r : ℕ} (xs : List ℕ) → Puts (bytes (flat_map (λ b. byte b ∷ []) xs)) out at out' r → Puts xs out at out' r
+puts_bytes xs p = rw (sym (each_byte xs)) p
+
+-- two bytes for each name
+names_size : (xs : List ℕ) → length (bytes (map name xs)) ≡ 2 * length xs
+names_size [] = refl
+names_size (x ∷ xs) = omega (arith, names_size xs)
+
+pub path_size : (path : Path) → length path.names ≡ 4 → length (path_bytes path) ≡ 9
+path_size path e = omega (arith, names_size path.names, e)
 
 -- a run of bytes changes no length
 pub puts_size : {xs out out' : List ℕ} {at r : ℕ} → Puts xs out at out' r → length out' ≡ length out
@@ -95,16 +99,16 @@ record_items kind definition n names chain h =
     ap (λ xs. (0x70 + kind) ∷ bytes (two_bytes definition) ++ bytes (two_bytes n) ++ xs)
     (ap (◌++ bytes (chain_items chain)) (path_items_lem names h) ∙ sym (bytes_append (path_items names) (chain_items chain)))
 
-pub record_puts : (kind definition n : ℕ) (path : Path) (names chain : List ℕ) {out o₁ o₂ o₃ o₄ out' : List ℕ} {at m₁ m₂ m₃ m₄ r : ℕ}
-    → Puts ((0x70 + kind) ∷ []) out at o₁ m₁ → Puts (bytes (two_bytes definition)) o₁ m₁ o₂ m₂ → Puts (bytes (two_bytes n)) o₂ m₂ o₃ m₃
+pub record_puts : {kind k : ℕ} (definition n : ℕ) {path : Path} (names chain : List ℕ) {out o₁ o₂ o₃ o₄ out' : List ℕ} {at m₁ m₂ m₃ m₄ r : ℕ} → k ≡ kind
+    → Puts ((0x70 + k) ∷ []) out at o₁ m₁ → Puts (bytes (two_bytes definition)) o₁ m₁ o₂ m₂ → Puts (bytes (two_bytes n)) o₂ m₂ o₃ m₃
     → Puts (path_bytes path) o₃ m₃ o₄ m₄ → Puts (bytes (chain_items chain)) o₄ m₄ out' r → length names ≤ 4 → path ≡ padded names
     → Puts (bytes (violation_items (violation kind definition n names chain))) out at out' r
-record_puts kind definition n path names chain {out} {o₁} {o₂} {o₃} {o₄} {out'} {at} {m₁} {m₂} {m₃} {m₄} {r} a b c d e few same =
-    subst (λ xs. Puts xs out at out' r) (record_items kind definition n names chain few)
+record_puts {kind} {k} definition n {path} names chain {out} {o₁} {o₂} {o₃} {o₄} {out'} {at} {m₁} {m₂} {m₃} {m₄} {r} is a b c d e few same =
+    subst (λ xs. Puts xs out at out' r) (ap (λ j. (0x70 + j) ∷ bytes (two_bytes definition) ++ bytes (two_bytes n) ++ path_bytes (padded names) ++ bytes (chain_items chain)) is ∙ record_items kind definition n names chain few)
     (puts_both a (puts_both b (puts_both c (puts_both (subst (λ p. Puts (path_bytes p) o₃ m₃ o₄ m₄) same d) e))))
 
 -- the bytes of a record
-links_size : (chain : List ℕ) → length (bytes (links chain)) ≡ 3 * length chain
+links_size : (chain : List ℕ) → length (bytes (flat_map link chain)) ≡ 3 * length chain
 links_size [] = refl
 links_size (n ∷ chain) = omega (arith, links_size chain)
 
@@ -112,9 +116,9 @@ pub record_size : (kind definition n : ℕ) (names chain : List ℕ) → length 
 record_size kind definition n names chain h = sym (ap length (record_items kind definition n names chain h)) ∙ omega (arith, links_size chain)
 
 -- a record that starts behind the end
-pub record_out : (kind definition n count : ℕ) (names chain : List ℕ) {out : List ℕ} {at : ℕ} → length out ≤ at → count ≤ length chain → length names ≤ 4
-    → Puts (bytes (violation_items (violation kind definition n names (take count chain)))) out at out (at + 16 + 3 * count)
-record_out kind definition n count names chain l w few = puts_out l (omega (arith, record_size kind definition n names (take count chain) few, length-take-le count chain w))
+pub record_out : (kind definition n : ℕ) (names chain : List ℕ) {out : List ℕ} {at : ℕ} → length out ≤ at → length names ≤ 4
+    → Puts (bytes (violation_items (violation kind definition n names chain))) out at out (at + 16 + 3 * length chain)
+record_out kind definition n names chain l few = puts_out l (omega (arith, record_size kind definition n names chain few))
 
 -- chains of as many names make records of as many bytes
 pub record_alike : (kind definition n : ℕ) (names chain chain' : List ℕ) → length chain ≡ length chain'

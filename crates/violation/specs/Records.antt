@@ -1,6 +1,7 @@
 -- Writing at a place of a lent buffer, and the parts of a violation's record.
-use Rattle.std.specs.Prelude.{ℕ, ◌+◌, ◌/◌, ◌%◌, List, [], ◌∷◌, ◌≡◌, length, get_or}
+use Rattle.std.specs.Prelude.{ℕ, ◌+◌, List, [], ◌∷◌, ◌≡◌, length, get_or, map}
 use Rattle.std.proofs.lemmas.List.Edits.{sets}
+use Rattle.names.specs.Documents.{name, bytes}
 use Rattle.violation.specs.declared.Path.{Path}
 
 -- the bytes xs are written from place `at` on, as far as there are places, and r is the place behind them
@@ -18,20 +19,8 @@ longest = 1025
 
 -- the path's count, and its names in two bytes each
 abbrev pub path_bytes : Path → List ℕ
-path_bytes p =
-    p.count
-    ∷ p.first % 256 ∷ p.first / 256
-    ∷ p.second % 256 ∷ p.second / 256
-    ∷ p.third % 256 ∷ p.third / 256
-    ∷ p.fourth % 256 ∷ p.fourth / 256
-    ∷ []
+path_bytes p = p.count ∷ bytes (map name p.names)
 
 -- the names of a path in four places, unused ones 0
 abbrev pub padded : List ℕ → Path
-padded names = record {
-  count = length names;
-  first = get_or names 0 0;
-  second = get_or names 1 0;
-  third = get_or names 2 0;
-  fourth = get_or names 3 0;
-}
+padded names = record { count = length names; names = map (λ i. get_or names i 0) (0 ∷ 1 ∷ 2 ∷ 3 ∷ []) }

@@ -1,31 +1,59 @@
 // Writes the record that a report has for a violation. Bytes for which the lent buffer has no place are counted and not written.
 #![tactic(auto)]
 
-ghost use Rattle.std.specs.Prelude.{◌≡◌, List, [], ◌∷◌, ℕ, ◌+◌, ◌*◌, ◌≤◌, ◌<◌, length, take};
+ghost use Rattle.std.specs.Prelude.{◌≡◌, List, [], ◌∷◌, ℕ, ◌+◌, ◌*◌, ◌≤◌, ◌<◌, length};
 ghost use Rattle.names.specs.Documents.{bytes};
 ghost use Rattle.meaning.specs.Report.{two_bytes, chain_items, violation_items};
 ghost use Rattle.meaning.specs.Violations.{violation};
 ghost use Rattle.violation.specs.Records.{Puts, farthest, longest, path_bytes, padded};
+ghost use Rattle.violation.specs.Kinds.{type_number};
+
+// The type of a violation, in the order of document 01's numbers.
+#[derive(Clone, Copy, Debug, PartialEq, Eq)]
+pub enum Kind {
+    EnumForward,
+    EnumCycle,
+    ArrayCycle,
+    FieldForward,
+    VariableElement,
+    JaggedReference,
+    JaggedInline,
+    NestedJagged,
+}
+
+impl From<Kind> for u8 {
+    ghost from_gives = { λ kind n. n ≡ type_number kind };
+
+    fn from(kind: Kind) -> u8 {
+        match kind {
+            Kind::EnumForward => 1,
+            Kind::EnumCycle => 2,
+            Kind::ArrayCycle => 3,
+            Kind::FieldForward => 4,
+            Kind::VariableElement => 5,
+            Kind::JaggedReference => 6,
+            Kind::JaggedInline => 7,
+            Kind::NestedJagged => 8,
+        }
+    }
+}
 
 // A path of at most four names; unused ones are 0.
 #[derive(Clone, Copy)]
 pub struct Path {
     pub count: u8,
-    pub first: u16,
-    pub second: u16,
-    pub third: u16,
-    pub fourth: u16,
+    pub names: [u16; 4],
 }
 
-// What a violation's record says beside the definition: the type, 1 to 8, the path and the length of the chain.
+// What a violation's record says beside the definition, its name and the chain.
 #[derive(Clone, Copy)]
 pub struct Record {
-    pub kind: u8,
+    pub kind: Kind,
     pub path: Path,
-    pub length: usize,
 }
 
-// Writes a byte where there is a place for it. Returns the place behind it, as all functions here do.
+// Writes a byte where there is a place for it. Returns the place behind it, as all functions here do. The place stays a parameter: a
+// struct of the buffer and the place would be no plainer, as callers keep places in a `Position` and read the buffer's length between.
 pub fn put_byte(out: &mut [u8], at: usize, value: u8) -> usize
     requires { at < farthest }
     ensures { Puts (value ∷ []) out.old at out.new result }
@@ -37,13 +65,24 @@ pub fn put_byte(out: &mut [u8], at: usize, value: u8) -> usize
     next
 }
 
+// Writes bytes, one behind the other.
+pub fn put_bytes(out: &mut [u8], at: usize, list: &[u8]) -> usize
+    requires { at + length list.now ≤ farthest }
+    ensures { Puts list.now out.old at out.new result }
+{
+    let mut next = at;
+    for &byte in list {
+        next = put_byte(out, next, byte);
+    }
+    next
+}
+
 // Writes a number in two bytes, low byte first.
 pub fn put_two(out: &mut [u8], at: usize, value: u16) -> usize
     requires { at + 1 < farthest }
     ensures { Puts (bytes (two_bytes value)) out.old at out.new result }
 {
-    let next = put_byte(out, at, (value % 256) as u8);
-    put_byte(out, next, (value / 256) as u8)
+    put_bytes(out, at, &value.to_le_bytes())
 }
 
 // Writes the count of a path and its four names.
@@ -51,31 +90,28 @@ fn put_path(out: &mut [u8], at: usize, path: Path) -> usize
     requires { at + 8 < farthest }
     ensures { Puts (path_bytes path) out.old at out.new result }
 {
-    let first = put_byte(out, at, path.count);
-    let second = put_two(out, first, path.first);
-    let third = put_two(out, second, path.second);
-    let fourth = put_two(out, third, path.third);
-    put_two(out, fourth, path.fourth)
-}
-
-// Writes the length of a chain, and 7F and the name for each of its names.
-fn put_chain(out: &mut [u8], at: usize, chain: &[u16], count: usize) -> usize
-    requires count_le_longest { (count ≤ longest) × (count ≤ length chain.now) }
-    requires count_bound { at + 2 + 3 * count ≤ farthest }
-    ensures { Puts (bytes (chain_items (take count chain.now))) out.old at out.new result }
-{
-    let mut next = put_two(out, at, count as u16);
-    let mut i = 0;
-    while i < count {
-        let name = put_byte(out, next, 0x7F);
-        next = put_two(out, name, chain[i]);
-        i += 1;
+    let mut next = put_byte(out, at, path.count);
+    for name in path.names {
+        next = put_two(out, next, name);
     }
     next
 }
 
-// Writes the record of a violation of a definition by its number, whose name is `name` and whose chain stands in `chain`. A record behind
-// the end is only counted.
+// Writes the length of a chain, and 7F and the name for each of its names.
+fn put_chain(out: &mut [u8], at: usize, chain: &[u16]) -> usize
+    requires length_le_longest { length chain.now ≤ longest }
+    requires length_bound { at + 2 + 3 * length chain.now ≤ farthest }
+    ensures { Puts (bytes (chain_items chain.now)) out.old at out.new result }
+{
+    let mut next = put_two(out, at, chain.len() as u16);
+    for &name in chain {
+        let behind = put_byte(out, next, 0x7F);
+        next = put_two(out, behind, name);
+    }
+    next
+}
+
+// Writes the record of a violation of a definition by its number, whose name is `name`. A record behind the end is only counted.
 pub fn put_violation(
     out: &mut [u8],
     at: usize,
@@ -84,17 +120,16 @@ pub fn put_violation(
     found: Record,
     chain: &[u16],
 ) -> usize
-    requires length_le_longest { (found.length ≤ longest) × (found.length ≤ length chain.now) × (found.kind ≤ 8) }
-    requires length_bound { at + 16 + 3 * found.length ≤ farthest }
-    ensures { (names : List ℕ) → length names ≤ 4 → found.path ≡ padded names → Puts (bytes (violation_items (violation found.kind definition name names (take found.length chain.now)))) out.old at out.new result }
+    requires length_le_longest { length chain.now ≤ longest }
+    requires length_bound { at + 16 + 3 * length chain.now ≤ farthest }
+    ensures { (names : List ℕ) → length names ≤ 4 → found.path ≡ padded names → Puts (bytes (violation_items (violation (type_number found.kind) definition name names chain.now))) out.old at out.new result }
 {
     if out.len() <= at {
-        return at + 16 + 3 * found.length;
+        return at + 16 + 3 * chain.len();
     }
-    let path = found.path;
-    let number = put_byte(out, at, 0x70 + found.kind);
+    let number = put_byte(out, at, 0x70 + u8::from(found.kind));
     let named = put_two(out, number, definition);
     let count = put_two(out, named, name);
-    let link = put_path(out, count, path);
-    put_chain(out, link, chain, found.length)
+    let link = put_path(out, count, found.path);
+    put_chain(out, link, chain)
 }

@@ -3,10 +3,8 @@
 
 ghost use Rattle.std.specs.Prelude.{List, [], ◌∷◌, ℕ, ◌≡◌};
 ghost use Rattle.decimal.specs.Parsing.{IsParsed};
-ghost use Rattle.words.specs.Running.{reads_bundle, turn_of, message_of};
+ghost use Rattle.words.specs.Running.{reads_bundle, message_of};
 ghost use Rattle.words.specs.Words.{IsWord, Asks, AsksOnly, words_of};
-
-use decimal::Parsed;
 
 // A first word.
 #[derive(Clone, Copy)]
@@ -37,31 +35,15 @@ pub enum Order {
 fn word_of(word: &[u8]) -> Word
     ensures { IsWord word.now result }
 {
-    if check::same(word, b"renumber") {
-        return Word::Renumber;
+    match word {
+        b"renumber" => Word::Renumber,
+        b"chain" => Word::Chain,
+        b"followed" => Word::Followed,
+        b"size" => Word::Size,
+        b"value" => Word::Value,
+        b"help" | b"--help" | b"-h" => Word::Help,
+        _ => Word::Other,
     }
-    if check::same(word, b"chain") {
-        return Word::Chain;
-    }
-    if check::same(word, b"followed") {
-        return Word::Followed;
-    }
-    if check::same(word, b"size") {
-        return Word::Size;
-    }
-    if check::same(word, b"value") {
-        return Word::Value;
-    }
-    if check::same(word, b"help") {
-        return Word::Help;
-    }
-    if check::same(word, b"--help") {
-        return Word::Help;
-    }
-    if check::same(word, b"-h") {
-        return Word::Help;
-    }
-    Word::Other
 }
 
 // What a word without others asks for.
@@ -80,32 +62,23 @@ fn alone(word: Word) -> Order
 }
 
 // What a word asks for with one other behind it.
-fn ahead(word: Word, number: Parsed) -> Order
+fn ahead(word: Word, number: Option<u16>) -> Order
     ensures { (w x : List ℕ) → IsWord w word → IsParsed x number → Asks (w ∷ x ∷ []) result }
 {
-    let Parsed::Name(definition) = number else {
-        return Order::Wrong;
-    };
-    match word {
-        Word::Size => Order::Size(definition),
-        Word::Value => Order::Value(definition),
+    match (word, number) {
+        (Word::Size, Some(definition)) => Order::Size(definition),
+        (Word::Value, Some(definition)) => Order::Value(definition),
         _ => Order::Wrong,
     }
 }
 
 // What a word asks for with two others behind it.
-fn between(word: Word, from: Parsed, to: Parsed) -> Order
+fn between(word: Word, from: Option<u16>, to: Option<u16>) -> Order
     ensures { (w x y : List ℕ) → IsWord w word → IsParsed x from → IsParsed y to → Asks (w ∷ x ∷ y ∷ []) result }
 {
-    let Parsed::Name(first) = from else {
-        return Order::Wrong;
-    };
-    let Parsed::Name(last) = to else {
-        return Order::Wrong;
-    };
-    match word {
-        Word::Chain => Order::Chain(first, last),
-        Word::Followed => Order::Followed(first, last),
+    match (word, from, to) {
+        (Word::Chain, Some(first), Some(last)) => Order::Chain(first, last),
+        (Word::Followed, Some(first), Some(last)) => Order::Followed(first, last),
         _ => Order::Wrong,
     }
 }
@@ -115,43 +88,22 @@ pub fn order_of(count: usize, first: &[u8], second: &[u8], third: &[u8]) -> Orde
     ensures asks { Asks (words_of count first.now second.now third.now) result }
     ensures asks_only { AsksOnly (words_of count first.now second.now third.now) result }
 {
-    if count <= 1 {
-        return Order::Report;
+    match count {
+        0 | 1 => Order::Report,
+        2 => alone(word_of(first)),
+        3 => ahead(word_of(first), decimal::parse_name(second)),
+        4 => between(
+            word_of(first),
+            decimal::parse_name(second),
+            decimal::parse_name(third),
+        ),
+        _ => Order::Wrong,
     }
-    if count == 2 {
-        return alone(word_of(first));
-    }
-    if count == 3 {
-        let number = decimal::parse_name(second);
-        return ahead(word_of(first), number);
-    }
-    if count == 4 {
-        let from = decimal::parse_name(second);
-        let to = decimal::parse_name(third);
-        return between(word_of(first), from, to);
-    }
-    Order::Wrong
-}
-
-// What reading came to.
-#[derive(Clone, Copy)]
-pub enum Input {
-    Bytes(usize),
-    Failed,
-}
-
-// What one read says.
-#[derive(Clone, Copy)]
-pub enum Turn {
-    More(usize),
-    End,
-    Failed,
 }
 
 // What is said on standard error.
 #[derive(Clone, Copy)]
 pub enum Message {
-    Nothing,
     Arguments,
     Unread,
     Unwritten,
@@ -161,43 +113,17 @@ pub enum Message {
 pub fn reads_bundle(order: Order) -> bool
     ensures { result ≡ reads_bundle order }
 {
-    match order {
-        Order::Report => true,
-        Order::Renumber => true,
-        Order::Chain(_, _) => true,
-        Order::Followed(_, _) => true,
-        Order::Size(_) => true,
-        Order::Value(_) => true,
-        Order::Help => false,
-        Order::Wrong => false,
-    }
+    !matches!(order, Order::Help | Order::Wrong)
 }
 
-// What a read says by its answer.
-pub fn turn_of(got: isize) -> Turn
-    ensures { result ≡ turn_of got }
+// What is said, if something is, where as many bytes were read, or none where reading failed, and all of the output was written or not.
+pub fn message_of(order: Order, read: Option<usize>, written: bool) -> Option<Message>
+    ensures { result ≡ message_of order read written }
 {
-    if got < 0 {
-        return Turn::Failed;
+    match (order, read) {
+        (Order::Wrong, _) => Some(Message::Arguments),
+        (_, None) => Some(Message::Unread),
+        (_, Some(_)) if written => None,
+        (_, Some(_)) => Some(Message::Unwritten),
     }
-    if got == 0 {
-        return Turn::End;
-    }
-    Turn::More(got as usize)
-}
-
-// What is said, where all of the output was written or not.
-pub fn message_of(order: Order, input: Input, written: bool) -> Message
-    ensures { result ≡ message_of order input written }
-{
-    if let Order::Wrong = order {
-        return Message::Arguments;
-    }
-    if let Input::Failed = input {
-        return Message::Unread;
-    }
-    if written {
-        return Message::Nothing;
-    }
-    Message::Unwritten
 }

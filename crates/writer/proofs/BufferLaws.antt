@@ -6,7 +6,7 @@ use mathlib.Core.Bool.{cond}
 use mathlib.Core.Path.{◌≡◌, refl, sym, ap, ap₂, ◌∙◌}
 use mathlib.Core.List.{List, [], ◌∷◌, ◌++◌}
 use mathlib.Core.Option.{Option, none, some}
-use lib.Dec.{T, leb, leb→le}
+use lib.Dec.{T, leb}
 use lib.ListN.{length, take, drop, length-append, length-drop}
 use lib.Seq.{sets, length-sets, length-take-le, take_at, drop_at}
 use borrow.Author.Tests.{le-leb}
@@ -20,9 +20,10 @@ use Rattle.meaning.specs.Calls.{Outcome, result, answer_of, places_after}
 use Rattle.meaning.specs.Writing.{Field, most, fault, field_items, body_items, first_fault, fields_of, record_due, writing, bundle_records, Writes, nothing, record_first}
 use Rattle.meaning.proofs.WritingLaws.{bundle_writes, records_read_back}
 use Rattle.writer.specs.Places.{places_from, end_of, given, records_after}
-use Rattle.writer.proofs.RecordLaws.{sets_both, stored_from}
+use Rattle.writer.proofs.RecordLaws.{sets_both}
+use Rattle.writer.proofs.Numbers.{stored_from}
 use Rattle.meaning.proofs.WritingLaws.{fits}
-use Rattle.writer.proofs.KindLaws.{short, kind_short}
+use Rattle.writer.proofs.KindLaws.{short, kind_short, short_fields}
 
 -- Values that are not given count as 0.
 
@@ -46,12 +47,12 @@ given_items (suc n) (f ∷ fs) [] h = ap (field_items f 0 ++◌) (given_items n 
 given_items (suc n) (f ∷ fs) (v ∷ vs) h = ap (field_items f v ++◌) (given_items n fs vs (le_of_suc-le-suc h))
 
 given_due : (k : ℕ) (vs : List ℕ) → writing k (given 4 vs) ≡ writing k vs
-unfolding writing short
+unfolding writing
 given_due k vs = by (fields_of k (form_of k)) (kind_short k)
   where
     by : (o : Option (List Field)) → T (short o) → record_due k (given 4 vs) o ≡ record_due k vs o
     by none t = refl
-    by (some fs) t = rw (given_fault 4 fs vs (leb→le (length fs) 4 t), given_items 4 fs vs (leb→le (length fs) 4 t))
+    by (some fs) t = let h = short_fields fs t in rw (given_fault 4 fs vs h.0, given_items 4 fs vs h.0)
 
 -- One call: its answer and the places after it are those that the next one goes on from.
 

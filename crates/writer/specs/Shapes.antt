@@ -1,15 +1,14 @@
--- What the writer's shapes stand for: the fields of a record's body (the meaning's Writing.antt), four places for them.
-use Rattle.std.specs.Prelude.{ℕ, ◌+◌, ◌-◌, ◌^◌, Bool, true, ◌||◌, List, [], ◌∷◌, eqb}
+-- What the writer's parts stand for: the fields of a record's body (the meaning's Writing.antt).
+use Rattle.std.specs.Prelude.{ℕ, ◌+◌, ◌≤◌, Bool, true, ◌||◌, List, [], ◌∷◌, ◌≡◌, Result, Ok, Err, map, eqb, ⊤}
 use Rattle.std.proofs.Math.Option.{Option, none, some}
 use Rattle.meaning.specs.Kinds.{Literal, FieldRef, Sizeof, Alignof, Binary, Unary}
 use Rattle.meaning.specs.Kinds.{Form, OfExpr, OfType, OfMember, OfRecord, Unknown}
-use Rattle.meaning.specs.Writing.{Field, numeric, named, most, fault}
+use Rattle.meaning.specs.Writing.{Field, numeric, named, most, fault, first_fault}
+use Rattle.refusal.specs.declared.Refusal.{Refusal}
+use Rattle.refusal.specs.Numbers.{number, refusal_of}
 use Rattle.bundle.specs.declared.RecordForm.{RecordForm}
 use Rattle.bundle.specs.declared.RecordForm.TheVariants.{Header, Definition, Edge}
 use Rattle.writer.specs.declared.Part.{Part}
-use Rattle.writer.specs.declared.Shape.{Shape}
-use Rattle.writer.specs.declared.Shaped.{Shaped}
-use Rattle.writer.specs.declared.Shaped.TheVariants.{Body, None}
 
 -- the bytes of a field
 abbrev pub width : Field → ℕ
@@ -18,47 +17,39 @@ width named = 2
 
 -- the part for a field
 abbrev pub part_of : Field → Part
-part_of f = record { width = width f; most = most f; fault = fault f }
+part_of f = record { width = width f; most = most f; refusal = refusal_of (fault f) }
 
--- the part that is not there: no bytes, and no value is too large
-abbrev pub no_part : Part
-no_part = record { width = 0; most = 256 ^ 8 - 1; fault = 0 }
+-- the parts for the fields of a body
+abbrev pub parts_of : List Field → List Part
+parts_of fs = map part_of fs
 
--- the part for the first of the fields
-abbrev pub first_part : List Field → Part
-first_part [] = no_part
-first_part (f ∷ fs) = part_of f
+-- these are the parts for the fields of a kind
+abbrev pub ArePartsOf : Option (List Field) → List Part → Type 0
+ArePartsOf none ps = ⊥
+ArePartsOf (some fs) ps = ps ≡ parts_of fs
 
--- the fields behind the first
-abbrev pub others : List Field → List Field
-others [] = []
-others (f ∷ fs) = fs
-
--- the shape of a body with at most four fields
-unfoldable pub shape_of : List Field → Shape
-shape_of fs =
-    record {
-      first = first_part fs;
-      second = first_part (others fs);
-      third = first_part (others (others fs));
-      fourth = first_part (others (others (others fs)));
-    }
-
--- the answer for the fields of a kind
-unfoldable pub shaped_of : Option (List Field) → Shaped
-shaped_of none = None
-shaped_of (some fs) = Body (shape_of fs)
-
--- the fields that a shape stands for
+-- the field that a part stands for
 abbrev pub field_of : Part → Field
-field_of p = numeric p.width p.most p.fault
+field_of p = numeric p.width p.most (number p.refusal)
 
-abbrev pub shape_fields : Shape → List Field
-shape_fields s = field_of s.first ∷ field_of s.second ∷ field_of s.third ∷ field_of s.fourth ∷ []
+-- the fields that parts stand for
+abbrev pub fields_in : List Part → List Field
+fields_in ps = map field_of ps
 
--- the bytes of a record of this shape
-abbrev pub size_of : Shape → ℕ
-size_of s = 1 + s.first.width + s.second.width + s.third.width + s.fourth.width
+-- the bytes of parts
+abbrev pub size_of : List Part → ℕ
+size_of [] = 0
+size_of (p ∷ ps) = p.width + size_of ps
+
+-- each part has at most eight bytes
+abbrev pub Narrow : List Part → Type 0
+Narrow [] = ⊤
+Narrow (p ∷ ps) = (p.width ≤ 8) × Narrow ps
+
+-- the bytes of a record of these parts, or the refusal of the first of these values that is too large
+abbrev pub Checked : List Part → List ℕ → Result ℕ Refusal → Type 0
+Checked ps vs (Ok n) = (first_fault (fields_in ps) vs ≡ none) × (n ≡ 1 + size_of ps)
+Checked ps vs (Err r) = first_fault (fields_in ps) vs ≡ some (number r)
 
 -- the kind of a header, definition and edge
 abbrev pub record_kind : RecordForm → ℕ
@@ -86,6 +77,6 @@ sound (OfExpr Alignof) = true
 sound (OfExpr Binary) = true
 sound (OfExpr Unary) = true
 sound (OfType f) = true
-sound (OfMember w) = eqb w 0 || is_width w
+sound (OfMember w) = eqb w 0 || eqb w 8
 sound (OfRecord before names behind) = true
 sound Unknown = true

@@ -1,279 +1,241 @@
 // Writes the records of a bundle one by one into a lent buffer.
 #![tactic(auto)]
 
-ghost use Rattle.std.specs.Prelude.{◌≡◌, ◌∷◌, [], ◌+◌, ◌-◌, ◌≤◌, length, replicate, T};
-ghost use Rattle.std.proofs.Math.Option.{some};
+ghost use Rattle.std.specs.Prelude.{◌≡◌, ◌∷◌, [], ◌+◌, ◌-◌, ◌≤◌, length, replicate, T, map, MatchOption};
+ghost use Rattle.std.proofs.Math.Option.{none, some};
 ghost use Rattle.std.proofs.lemmas.List.Edits.{sets};
 ghost use Rattle.names.specs.Documents.{byte, bytes};
 ghost use Rattle.meaning.specs.Encoding.{number_items};
-ghost use Rattle.meaning.specs.Kinds.{OfExpr, form_of};
-ghost use Rattle.meaning.specs.Writing.{whole, flag, named, numeric, expr_fields, type_fields, record_fields, fields_of};
+ghost use Rattle.meaning.specs.Kinds.{OfExpr, OfMember, form_of};
+ghost use Rattle.meaning.specs.Writing.{expr_fields, type_fields, member_fields, record_fields, fields_of, named, whole};
 ghost use Rattle.meaning.specs.Writing.{body_items, record_due, writing};
 ghost use Rattle.bundle.specs.Opened.{answer_meant};
 ghost use Rattle.bundle.specs.View.{expr_form_meant, type_form_meant};
-ghost use Rattle.writer.specs.declared.Shaped.TheVariants.{Body};
-ghost use Rattle.writer.specs.Shapes.{part_of, no_part, shaped_of, record_kind, is_width, is_count, sound, shape_fields, size_of};
+ghost use Rattle.writer.specs.Shapes.{parts_of, ArePartsOf, record_kind, is_width, is_count, sound, fields_in, Narrow, Checked, size_of};
 ghost use Rattle.writer.specs.Places.{CallFrom};
 ghost use Rattle.writer.specs.Stored.{Stored};
 
-use bundle::{Answer, ExprForm, Form, RecordForm, TypeForm};
+use bundle::{ExprForm, Form, RecordForm, TypeForm};
+use refusal::Refusal;
 
-const DEFINITION_LIMIT: u64 = bundle::DEFINITION_LIMIT as u64;
-
-const EDGE_LIMIT: u64 = bundle::EDGE_LIMIT as u64;
-
-// A part of a record's body: its bytes, its largest value, and the refusal of a larger one. A part that is not there has no bytes.
+// A part of a record's body: its bytes, its largest value, and the refusal of a larger one.
 #[derive(Clone, Copy)]
 pub struct Part {
     pub width: u8,
     pub most: u64,
-    pub fault: u8,
+    pub refusal: Refusal,
 }
 
-// The parts of a record's body, at most four.
-#[derive(Clone, Copy)]
-pub struct Shape {
-    pub first: Part,
-    pub second: Part,
-    pub third: Part,
-    pub fourth: Part,
-}
+// A number that may be as large as fits its 1, 2, 4 or 8 bytes; a name is one of 2 bytes.
+const W1: Part = Part {
+    width: 1,
+    most: u8::MAX as u64,
+    refusal: Refusal::WrongValue,
+};
 
-// What a kind byte says of its body.
-#[derive(Clone, Copy)]
-pub enum Shaped {
-    Body(Shape),
-    None,
-}
+const W2: Part = Part {
+    width: 2,
+    most: u16::MAX as u64,
+    refusal: Refusal::WrongValue,
+};
 
-// The part that is not there.
-fn no_part() -> Part
-    ensures { result ≡ no_part }
-{
-    Part {
-        width: 0,
-        most: 0xFFFF_FFFF_FFFF_FFFF,
-        fault: 0,
-    }
-}
+const W4: Part = Part {
+    width: 4,
+    most: u32::MAX as u64,
+    refusal: Refusal::WrongValue,
+};
 
-// A name.
-fn name_part() -> Part
-    ensures { result ≡ part_of named }
-{
-    Part {
-        width: 2,
-        most: 0xFFFF,
-        fault: 4,
-    }
-}
+const W8: Part = Part {
+    width: 8,
+    most: u64::MAX,
+    refusal: Refusal::WrongValue,
+};
 
-// A number of `width` bytes that is at most `most`.
-fn number_part(width: u8, most: u64, fault: u8) -> Part
-    ensures { result ≡ part_of (numeric width most fault) }
-{
-    Part { width, most, fault }
-}
+const FLAG: Part = Part {
+    width: 1,
+    most: 1,
+    refusal: Refusal::WrongValue,
+};
 
-// A number that may be as large as fits its 1, 2, 4 or 8 bytes.
-fn whole_part(width: u8) -> Part
+const EDGE_KIND: Part = Part {
+    width: 1,
+    most: 3,
+    refusal: Refusal::WrongValue,
+};
+
+const DEFINITION_COUNT: Part = Part {
+    width: 2,
+    most: bundle::DEFINITION_LIMIT as u64,
+    refusal: Refusal::TooMany,
+};
+
+const EDGE_COUNT: Part = Part {
+    width: 2,
+    most: bundle::EDGE_LIMIT as u64,
+    refusal: Refusal::TooMany,
+};
+
+const NAMES: [Part; 4] = [W2, W2, W2, W2];
+
+// Packed, aligned, and the count of members.
+const GROUP: [Part; 3] = [FLAG, W8, W2];
+
+// Packed, aligned, jagged.
+const ARRAY: [Part; 3] = [FLAG, W8, FLAG];
+
+const HEADER: [Part; 3] = [DEFINITION_COUNT, EDGE_COUNT, W2];
+
+const EDGE: [Part; 3] = [W2, W2, EDGE_KIND];
+
+const ONE: [Part; 1] = [W1];
+
+const TWO: [Part; 1] = [W2];
+
+const FOUR: [Part; 1] = [W4];
+
+const EIGHT: [Part; 1] = [W8];
+
+const NAMED_EIGHT: [Part; 2] = [W2, W8];
+
+// The body of a literal.
+fn literal_parts(width: u8) -> &'static [Part]
     requires { T (is_width width) }
-    ensures { result ≡ part_of (whole width) }
+    ensures { result.now ≡ parts_of (whole width ∷ []) }
 {
     match width {
-        1 => number_part(1, 0xFF, 4),
-        2 => number_part(2, 0xFFFF, 4),
-        4 => number_part(4, 0xFFFF_FFFF, 4),
-        _ => number_part(8, 0xFFFF_FFFF_FFFF_FFFF, 4),
+        1 => &ONE,
+        2 => &TWO,
+        4 => &FOUR,
+        _ => &EIGHT,
     }
 }
 
-// The parts of a body, in order.
-fn body(first: Part, second: Part, third: Part, fourth: Part) -> Shaped
-    ensures { result ≡ Body (record { first = first; second = second; third = third; fourth = fourth }) }
+// So many names.
+fn name_parts(count: u8) -> &'static [Part]
+    requires { count ≤ 4 }
+    ensures { result.now ≡ parts_of (replicate count named) }
 {
-    Shaped::Body(Shape {
-        first,
-        second,
-        third,
-        fourth,
-    })
-}
-
-// A path of 1 to 4 names.
-fn path_shape(count: u8) -> Shaped
-    requires { T (is_count count) }
-    ensures { result ≡ shaped_of (some (replicate count named)) }
-{
-    let name = name_part();
-    let none = no_part();
-    match count {
-        1 => body(name, none, none, none),
-        2 => body(name, name, none, none),
-        3 => body(name, name, name, none),
-        _ => body(name, name, name, name),
-    }
+    &NAMES[..count as usize]
 }
 
 // The body of an expression.
-fn expr_shape(form: ExprForm) -> Shaped
+fn expr_parts(form: ExprForm) -> &'static [Part]
     requires { T (sound (OfExpr (expr_form_meant form))) }
-    ensures { result ≡ shaped_of (some (expr_fields (expr_form_meant form))) }
+    ensures { result.now ≡ parts_of (expr_fields (expr_form_meant form)) }
 {
-    let none = no_part();
     match form {
-        ExprForm::Literal(width) => body(whole_part(width), none, none, none),
-        ExprForm::FieldRef(count) => path_shape(count),
-        ExprForm::Sizeof => body(name_part(), none, none, none),
-        ExprForm::Alignof => body(name_part(), none, none, none),
-        ExprForm::Binary => body(none, none, none, none),
-        ExprForm::Unary => body(none, none, none, none),
+        ExprForm::Literal(width) => literal_parts(width),
+        ExprForm::FieldRef(count) => name_parts(count),
+        ExprForm::Sizeof | ExprForm::Alignof => name_parts(1),
+        ExprForm::Binary | ExprForm::Unary => name_parts(0),
     }
 }
 
-// Packed, aligned, and the number behind them.
-fn head_shape(last: Part) -> Shaped
-    ensures { result ≡ Body (record { first = part_of flag; second = part_of (whole 8); third = last; fourth = no_part }) }
+// The body of a type.
+fn type_parts(form: TypeForm) -> &'static [Part]
+    ensures { result.now ≡ parts_of (type_fields (type_form_meant form)) }
 {
-    body(number_part(1, 1, 4), whole_part(8), last, no_part())
+    match form {
+        TypeForm::Primitive => name_parts(0),
+        TypeForm::TypeRef => name_parts(1),
+        TypeForm::Array => &ARRAY,
+        TypeForm::Struct | TypeForm::Union | TypeForm::Enum | TypeForm::SizeUnion => &GROUP,
+    }
 }
 
-// The body of a type.
-fn type_shape(form: TypeForm) -> Shaped
-    ensures { result ≡ shaped_of (some (type_fields (type_form_meant form))) }
+// The body of a member, whose value has so many bytes.
+fn member_parts(width: u8) -> &'static [Part]
+    requires { T (sound (OfMember width)) }
+    ensures { result.now ≡ parts_of (member_fields width) }
 {
-    let none = no_part();
-    match form {
-        TypeForm::Primitive => body(none, none, none, none),
-        TypeForm::TypeRef => body(name_part(), none, none, none),
-        TypeForm::Array => head_shape(number_part(1, 1, 4)),
-        _ => head_shape(whole_part(2)),
+    if width == 0 {
+        name_parts(1)
+    } else {
+        &NAMED_EIGHT
     }
 }
 
 // The body of the header, a definition or an edge.
-fn record_shape(form: RecordForm) -> Shaped
-    ensures { result ≡ shaped_of (some (record_fields (record_kind form))) }
+fn record_parts(form: RecordForm) -> &'static [Part]
+    ensures { result.now ≡ parts_of (record_fields (record_kind form)) }
 {
-    let none = no_part();
     match form {
-        RecordForm::Header => body(
-            number_part(2, DEFINITION_LIMIT, 5),
-            number_part(2, EDGE_LIMIT, 5),
-            name_part(),
-            none,
-        ),
-        RecordForm::Definition => body(name_part(), none, none, none),
-        RecordForm::Edge => body(name_part(), name_part(), number_part(1, 3, 4), none),
+        RecordForm::Header => &HEADER,
+        RecordForm::Definition => name_parts(1),
+        RecordForm::Edge => &EDGE,
     }
 }
 
-// The body of a record of this kind.
-fn shape_of(kind: u8) -> Shaped
-    ensures { result ≡ shaped_of (fields_of kind (form_of kind)) }
+// The body of a record of this kind, or None where it is no kind.
+fn parts_of(kind: u8) -> Option<&'static [Part]>
+    ensures { MatchOption result (fields_of kind (form_of kind) ≡ none) (λ parts. ArePartsOf (fields_of kind (form_of kind)) parts.now) }
 {
-    let form = bundle::form_of(kind);
-    match form {
-        Form::OfExpr(expr) => expr_shape(expr),
-        Form::OfType(ty) => type_shape(ty),
-        Form::OfMember(width) => {
-            if width == 0 {
-                body(name_part(), no_part(), no_part(), no_part())
-            } else {
-                body(name_part(), whole_part(width), no_part(), no_part())
-            }
-        }
-        Form::OfRecord(record) => record_shape(record),
-        Form::Unknown => Shaped::None,
+    match bundle::form_of(kind) {
+        Form::OfExpr(expr) => Some(expr_parts(expr)),
+        Form::OfType(ty) => Some(type_parts(ty)),
+        Form::OfMember(width) => Some(member_parts(width)),
+        Form::OfRecord(record) => Some(record_parts(record)),
+        Form::Unknown => None,
     }
 }
 
 // Writes a number of `width` bytes, low byte first.
 fn put_number(out: &mut [u8], at: usize, width: usize, value: u64)
-    requires { at + width ≤ length out.old }
+    requires { (width ≤ 8) × (at + width ≤ length out.old) }
     ensures { out.new ≡ sets out.old at (bytes (number_items width value)) }
 {
-    let mut next = at;
-    let mut left = width;
-    let mut rest = value;
-    while 0 < left {
-        out[next] = (rest % 256) as u8;
-        rest = rest / 256;
-        next += 1;
-        left -= 1;
+    out[at..at + width].copy_from_slice(&value.to_le_bytes()[..width]);
+}
+
+// The bytes of a record, or the refusal of the first value that is too large.
+fn record_size(parts: &[Part], values: &[u64; 4]) -> Result<usize, Refusal>
+    requires { Narrow parts.now × (length parts.now ≤ 4) }
+    ensures { Checked parts.now values.now result }
+{
+    let mut size = 1;
+    for (part, value) in parts.iter().zip(values) {
+        if part.most < *value {
+            return Err(part.refusal);
+        }
+        size += part.width as usize;
     }
-}
-
-// The places that are left from `at` on.
-fn room_at(places: usize, at: usize) -> usize
-    ensures { result ≡ places - at }
-{
-    if at < places { places - at } else { 0 }
-}
-
-// Writes a record that has room.
-fn put_record(out: &mut [u8], at: usize, kind: u8, shape: Shape, a: u64, b: u64, c: u64, d: u64)
-    requires { at + size_of shape ≤ length out.old }
-    ensures { out.new ≡ sets out.old at (bytes (byte kind ∷ body_items (shape_fields shape) (a ∷ b ∷ c ∷ d ∷ []))) }
-{
-    let first = shape.first.width as usize;
-    let second = shape.second.width as usize;
-    let third = shape.third.width as usize;
-    let fourth = shape.fourth.width as usize;
-    out[at] = kind;
-    put_number(out, at + 1, first, a);
-    put_number(out, at + 1 + first, second, b);
-    put_number(out, at + 1 + first + second, third, c);
-    put_number(out, at + 1 + first + second + third, fourth, d);
+    Ok(size)
 }
 
 // Writes a record whose values are not too large, where it has room.
-fn write_shape(
+fn write_parts(
     out: &mut [u8],
     at: usize,
     kind: u8,
-    shape: Shape,
-    a: u64,
-    b: u64,
-    c: u64,
-    d: u64,
-) -> Answer
-    ensures { CallFrom at (record_due kind (a ∷ b ∷ c ∷ d ∷ []) (some (shape_fields shape))) out.old out.new (answer_meant result) }
+    parts: &[Part],
+    values: &[u64; 4],
+) -> Result<usize, Refusal>
+    requires { Narrow parts.now × (length parts.now ≤ 4) }
+    ensures { CallFrom at (record_due kind values.now (some (fields_in parts.now))) out.old out.new (answer_meant result) }
 {
-    if shape.first.most < a {
-        return Answer::Refused(shape.first.fault);
+    let size = record_size(parts, values)?;
+    let room = out.len().saturating_sub(at);
+    if room < size {
+        return Err(Refusal::NoRoom);
     }
-    if shape.second.most < b {
-        return Answer::Refused(shape.second.fault);
+    out[at] = kind;
+    let mut next = at + 1;
+    for (part, value) in parts.iter().zip(values) {
+        put_number(out, next, part.width as usize, *value);
+        next += part.width as usize;
     }
-    if shape.third.most < c {
-        return Answer::Refused(shape.third.fault);
-    }
-    if shape.fourth.most < d {
-        return Answer::Refused(shape.fourth.fault);
-    }
-    let size = 1
-        + shape.first.width as usize
-        + shape.second.width as usize
-        + shape.third.width as usize
-        + shape.fourth.width as usize;
-    if room_at(out.len(), at) < size {
-        return Answer::Refused(9);
-    }
-    put_record(out, at, kind, shape, a, b, c, d);
-    Answer::Accepted(size)
+    Ok(size)
 }
 
 // Writes the record of this kind at `at`. The values are those of its body, in order; those that the kind does not have are
 // not looked at.
-pub fn write_record(out: &mut [u8], at: usize, kind: u8, a: u64, b: u64, c: u64, d: u64) -> Answer
-    ensures { CallFrom at (writing kind (a ∷ b ∷ c ∷ d ∷ [])) out.old out.new (answer_meant result) }
+pub fn write_record(out: &mut [u8], at: usize, kind: u8, values: [u64; 4]) -> Result<usize, Refusal>
+    ensures { CallFrom at (writing kind values) out.old out.new (answer_meant result) }
 {
-    let shaped = shape_of(kind);
-    match shaped {
-        Shaped::Body(shape) => write_shape(out, at, kind, shape, a, b, c, d),
-        Shaped::None => Answer::Refused(3),
-    }
+    let Some(parts) = parts_of(kind) else {
+        return Err(Refusal::WrongKind);
+    };
+    write_parts(out, at, kind, parts, &values)
 }
 
 // A bundle whose records are written one by one is read back.

@@ -1,13 +1,6 @@
-use Prim.Native.Nat.{ℕ, ◌<◌}
-use native.Mathlib.Omega.{arith}
-use Prim.Native.Nat.{◌+◌, ◌-◌}
-use mathlib.Core.Path.{refl}
-use borrow.Author.Tests.{not-true, not-false}
-use Rattle.bundle.proofs.LookupLaws.{place_there, place_ends}
-use Rattle.scan.proofs.Walks.{definition_records_lem}
-use Rattle.acceptance.specs.Circles.{unwalked, loops}
-use Rattle.acceptance.proofs.CircleLaws.{one_walked, one_way, decided_true, decided_loop}
-use Rattle.acceptance.proofs.WalkLaws.{Walking, place_below, place_less, walking_start, walking_end, name_there, others, walking_inside, walking_past, walking_next}
+use Prim.Native.Nat.{◌-◌}
+use Rattle.acceptance.specs.Circles.{unwalked}
+use Rattle.acceptance.proofs.WalkLaws.{Walking}
 use Rattle.acceptance.proofs.+walk_definition.Given as goal
 
 abbrev pub decreases-walk_definition : goal.decreases-walk_definition

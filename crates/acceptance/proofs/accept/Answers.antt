@@ -1,14 +1,11 @@
-use Prim.Native.Nat.{ℕ}
-use native.Mathlib.Omega.{arith}
-use lib.ListN.{length-replicate}
+use mathlib.Core.Path.{ap, ◌∙◌}
+use Rattle.refusal.proofs.NumberLaws.{handed_on}
+use Rattle.bundle.specs.Opened.{answer_meant}
 use Rattle.bundle.proofs.AnswerLaws.{accepts, turns_down}
 use Rattle.acceptance.proofs.accept.Goals as goal
 
-pub open-opening-requires : goal.open-opening-requires
-open-opening-requires c = omega (arith, length-replicate {A = ℕ} 2050 0)
+pub returns-in_err-open : goal.returns-in_err-open
+returns-in_err-open c = ap answer_meant (handed_on _ c.from_residual.ensures.1) ∙ turns_down _ _ c.in_err-open.ensures
 
-pub returns-in-Opened : goal.returns-in-Opened
-returns-in-Opened c = accepts _ _ _ _ c.open-opening.ensures c.in-Opened.is
-
-pub returns-in-Refused : goal.returns-in-Refused
-returns-in-Refused c = turns_down _ _ _ _ c.open-opening.ensures c.in-Refused.is
+pub returns : goal.returns
+returns c = accepts _ _ _ c.in_ok-open.ensures

@@ -1,10 +1,10 @@
 -- `acceptance::note_names` meets its contract. The invariant: the names of the definitions passed are noted.
 use native.Mathlib.Omega.{arith}
-use Prim.Native.Nat.{◌-◌}
-use mathlib.Core.Path.{◌≡◌, refl, ◌∙◌}
-use lib.ListN.{length, length-set}
-use Rattle.bundle.proofs.NameLaws.{back_length, Noting, noting_start, noting_there, noting_behind, noting_few, noting_few_all, noting_part, noting_room, noting_length, noting_new, noting_old, noting_end}
+use mathlib.Core.Path.{refl, ◌∙◌}
+use lib.ListN.{length-set}
+use Rattle.bundle.proofs.NameLaws.{back_length, noting_start, noting_there, noting_behind, noting_few, noting_few_all, noting_part, noting_room, noting_length, noting_new, noting_old, noting_end}
 use Rattle.acceptance.proofs.note_names.Goals as goal
+use Rattle.acceptance.proofs.note_names.Goals.{then-r-names, else-r-names}
 
 pub loop-i-init : goal.loop-i-init
 loop-i-init c = (refl, noting_start c.requires.0 c.requires.1 c.requires.2 (c.empty.ensures.0, c.empty.ensures.1.size))
@@ -37,15 +37,17 @@ bounds-places-names c = omega (arith, noting_few c.loop-i.invariant.1, noting_fe
 pub overflow_add-names : goal.overflow_add-names
 overflow_add-names c = record { fits = omega (arith, noting_few c.loop-i.invariant.1, noting_few_all c.loop-i.invariant.1) }
 
-pub loop-i-preserved-then-r-names : goal.loop-i-preserved-then-r-names
-loop-i-preserved-then-r-names c = let l = c.loop-i.invariant in
-    let h = c.loop-i-test.true in
-    (noting_length l.1 h c.u16_at-name.ensures (c.enter-r.ensures, c.enter-r.ensures.only.size) ∙ l.0, noting_new l.1 h c.u16_at-name.ensures (c.enter-r.ensures, c.enter-r.ensures.only.size) c.if-r-names.true)
-
 pub loop-i-preserved : goal.loop-i-preserved
-loop-i-preserved c = let l = c.loop-i.invariant in
+loop-i-preserved c =
+    let l = c.loop-i.invariant in
     let h = c.loop-i-test.true in
-    (noting_length l.1 h c.u16_at-name.ensures (c.enter-r.ensures, c.enter-r.ensures.only.size) ∙ l.0, noting_old l.1 h c.u16_at-name.ensures (c.enter-r.ensures, c.enter-r.ensures.only.size) c.if-r-names.false)
+    let n = c.enter-r.ensures.only.size in (
+      noting_length l.1 h c.u16_at-name.ensures (c.enter-r.ensures, n) ∙ l.0,
+      elim c.if-r-names.branch [
+        | then-r-names w ↦ rw w.names-is (noting_new l.1 h c.u16_at-name.ensures (c.enter-r.ensures, n) w.if-r-names.true)
+        | else-r-names w ↦ rw w.names-is (noting_old l.1 h c.u16_at-name.ensures (c.enter-r.ensures, n) w.if-r-names.false)
+      ],
+    )
 
 pub overflow_cast-places-2 : goal.overflow_cast-places-2
 overflow_cast-places-2 c = record { fits = omega (arith, noting_few c.loop-i.invariant.1, noting_few_all c.loop-i.invariant.1) }

@@ -1,15 +1,16 @@
 use mathlib.Core.Path.{sym, ◌∙◌}
-use Rattle.bundle.proofs.AnswerLaws.{read_layout, read_refused, due_refused, due_circle}
+use Rattle.refusal.proofs.NumberLaws.{handed_on}
+use Rattle.bundle.proofs.AnswerLaws.{due_refused, due_circle}
 use Rattle.acceptance.proofs.open.Goals as goal
 
+pub returns-in_err-layout : goal.returns-in_err-layout
+returns-in_err-layout c = rw (handed_on _ c.from_residual.ensures.1) (due_refused _ _ c.in_err-layout.ensures)
+
 pub circle-requires : goal.circle-requires
-circle-requires c = (read_layout _ _ _ _ c.bundle_at-opening.ensures c.in-Opened.is).table
+circle-requires c = c.in_ok-layout.ensures.table
 
 pub returns-then-circle : goal.returns-then-circle
-returns-then-circle c = due_circle (read_layout _ _ _ _ c.bundle_at-opening.ensures c.in-Opened.is) (sym c.if-circle.true ∙ c.circle.ensures)
+returns-then-circle c = due_circle c.in_ok-layout.ensures (sym c.if-circle.true ∙ c.circle.ensures)
 
-pub returns-else-circle : goal.returns-else-circle
-returns-else-circle c = (read_layout _ _ _ _ c.bundle_at-opening.ensures c.in-Opened.is, sym (sym c.if-circle.false ∙ c.circle.ensures))
-
-pub returns-in-Refused : goal.returns-in-Refused
-returns-in-Refused c = due_refused _ _ (read_refused _ _ _ _ c.bundle_at-opening.ensures c.in-Refused.is)
+pub returns : goal.returns
+returns c = (c.in_ok-layout.ensures, sym (sym c.if-circle.false ∙ c.circle.ensures))

@@ -1,12 +1,10 @@
 -- `bundle::expr_at` meets its contract. The invariant: what is left to read ends as the whole expression does; the bytes that are
 -- left fall with each turn and each call. Each way through a turn is a law of `OperandLaws`.
-use Prim.Native.Nat.{ℕ, ◌<◌}
 use native.Mathlib.Omega.{arith}
-use Prim.Native.Nat.{◌-◌}
 use mathlib.Core.Path.{sym, ap, ◌∙◌}
-use lib.ListN.{length}
+use Rattle.refusal.proofs.NumberLaws.{handed_on}
 use Rattle.bundle.specs.View.{operands_of}
-use Rattle.bundle.proofs.OperandLaws.{Reading, AtRecord, reading_start, reading_deep, reading_short, reading_other, reading_one, body_short, body_last, body_next, reading_two, left_on, left_ends, left_refused}
+use Rattle.bundle.proofs.OperandLaws.{reading_start, reading_deep, reading_short, reading_other, reading_one, body_short, body_last, body_next, reading_two, left_on, left_ends, left_refused}
 use Rattle.bundle.proofs.+expr_at.Goals as goal
 
 pub loop-level-init : goal.loop-level-init
@@ -34,13 +32,13 @@ pub loop-level-preserved-then-level-n : goal.loop-level-preserved-then-level-n
 loop-level-preserved-then-level-n t c = reading_two (record { reading = c.loop-level.invariant; deep = c.loop-level-test.true; there = c.if-s-next.false; operands = c.operands_of-operands.ensures ∙ ap operands_of c.form_of.ensures }) c.in-Two.is (omega arith) (omega arith)
 
 pub loop-level-smaller : goal.loop-level-smaller
-loop-level-smaller t c = omega (arith, left_on (record { reading = c.loop-level.invariant; deep = c.loop-level-test.true; there = c.if-s-next.false; operands = c.operands_of-operands.ensures ∙ ap operands_of c.form_of.ensures }) c.in-Two.is _ (sym c.in-Next.is ∙ c.expr_at-left.ensures))
+loop-level-smaller t c = omega (arith, left_on (record { reading = c.loop-level.invariant; deep = c.loop-level-test.true; there = c.if-s-next.false; operands = c.operands_of-operands.ensures ∙ ap operands_of c.form_of.ensures }) c.in-Two.is _ (sym c.in_ok-next-in-Two.was ∙ c.expr_at.ensures))
 
 pub loop-level-preserved : goal.loop-level-preserved
-loop-level-preserved t c = left_ends (record { reading = c.loop-level.invariant; deep = c.loop-level-test.true; there = c.if-s-next.false; operands = c.operands_of-operands.ensures ∙ ap operands_of c.form_of.ensures }) c.in-Two.is _ (sym c.in-Next.is ∙ c.expr_at-left.ensures)
+loop-level-preserved t c = left_ends (record { reading = c.loop-level.invariant; deep = c.loop-level-test.true; there = c.if-s-next.false; operands = c.operands_of-operands.ensures ∙ ap operands_of c.form_of.ensures }) c.in-Two.is _ (sym c.in_ok-next-in-Two.was ∙ c.expr_at.ensures)
 
-pub returns-in-Refused : goal.returns-in-Refused
-returns-in-Refused t c = left_refused (record { reading = c.loop-level.invariant; deep = c.loop-level-test.true; there = c.if-s-next.false; operands = c.operands_of-operands.ensures ∙ ap operands_of c.form_of.ensures }) c.in-Two.is _ (sym c.in-Refused.is ∙ c.expr_at-left.ensures)
+pub returns-in_err-next-in-Two : goal.returns-in_err-next-in-Two
+returns-in_err-next-in-Two t c = handed_on _ c.from_residual.ensures.1 ∙ left_refused (record { reading = c.loop-level.invariant; deep = c.loop-level-test.true; there = c.if-s-next.false; operands = c.operands_of-operands.ensures ∙ ap operands_of c.form_of.ensures }) c.in-Two.is _ (sym c.in_err-next-in-Two.was ∙ c.expr_at.ensures)
 
 pub returns-in-Unknown : goal.returns-in-Unknown
 returns-in-Unknown t c = reading_other (record { reading = c.loop-level.invariant; deep = c.loop-level-test.true; there = c.if-s-next.false; operands = c.operands_of-operands.ensures ∙ ap operands_of c.form_of.ensures }) c.in-Unknown.is

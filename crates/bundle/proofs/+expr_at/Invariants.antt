@@ -1,10 +1,6 @@
-use Prim.Native.Nat.{ℕ, ◌<◌}
-use native.Mathlib.Omega.{arith}
 use Prim.Native.Nat.{◌-◌}
-use mathlib.Core.Path.{sym, ap, ◌∙◌}
 use lib.ListN.{length}
-use Rattle.bundle.specs.View.{operands_of}
-use Rattle.bundle.proofs.OperandLaws.{Reading, AtRecord, reading_start, reading_deep, reading_short, reading_other, reading_one, body_short, body_last, body_next, reading_two, left_on, left_ends, left_refused}
+use Rattle.bundle.proofs.OperandLaws.{Reading}
 use Rattle.bundle.proofs.+expr_at.Given as goal
 
 abbrev pub decreases-expr_at : goal.decreases-expr_at

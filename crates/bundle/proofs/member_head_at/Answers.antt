@@ -4,7 +4,6 @@ use mathlib.Core.Path.{sym, ap, ◌∙◌}
 use Rattle.meaning.specs.Kinds.{form_of}
 use Rattle.bundle.proofs.Forms.{member_meant, not_member}
 use Rattle.bundle.proofs.HeadLaws.{member_short, member_stranger, member_other, member_ends}
-use borrow.Enum.Refused.{opened}
 use Rattle.bundle.proofs.member_head_at.Goals as goal
 
 pub returns-then-s-at : goal.returns-then-s-at
@@ -14,7 +13,7 @@ pub returns-then-s-at-2 : goal.returns-then-s-at-2
 returns-then-s-at-2 c = sym (member_stranger _ _ _ (omega arith) c.if-s-at-2.true)
 
 pub returns-in_default : goal.returns-in_default
-returns-in_default c = sym (member_other _ _ _ (omega arith) _ c.if-s-at-2.false (c.requires ∙ ap form_of (sym c.if-s-at-2.false)) (not_member _ (opened c.in_default.in_default-own.keys2)))
+returns-in_default c = sym (member_other _ _ _ (omega arith) _ c.if-s-at-2.false (c.requires ∙ ap form_of (sym c.if-s-at-2.false)) (not_member _ c.in_default.not-OfMember))
 
 pub returns : goal.returns
 returns c = c.skip_bytes.ensures ∙ sym (member_ends _ _ _ (omega arith) _ _ c.if-s-at-2.false (c.requires ∙ ap form_of (sym c.if-s-at-2.false)) (member_meant c.in-OfMember.is))

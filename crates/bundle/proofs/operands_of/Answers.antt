@@ -4,11 +4,10 @@ use Rattle.bundle.specs.declared.Form.TheVariants.{OfExpr}
 use Rattle.bundle.specs.View.{operands_of, expr_operands}
 use Rattle.bundle.proofs.Forms.{literal_meant, field_ref_meant, sizeof_meant, alignof_meant, binary_meant, unary_meant}
 use Rattle.bundle.proofs.OperandLaws.{no_operands}
-use borrow.Enum.Refused.{opened}
 use Rattle.bundle.proofs.operands_of.Goals as goal
 
 pub returns-in_default : goal.returns-in_default
-returns-in_default c = no_operands _ (opened c.in_default.in_default-own.keys2)
+returns-in_default c = no_operands _ c.in_default.not-OfExpr
 
 pub returns-in-Literal : goal.returns-in-Literal
 unfolding operands_of expr_operands

@@ -1,24 +1,13 @@
-use native.Mathlib.Omega.{arith}
 use mathlib.Core.Path.{sym, ◌∙◌}
-use borrow.Author.Tests.{not-true, not-false}
 use Rattle.checks.proofs.ChainChecks.{fine}
 use Rattle.checks.proofs.ElementChecks.{element_only, element_jagged, element_fine, element_varies}
 use Rattle.checks.proofs.check_array_element_type_size.Goals as goal
 
-pub check_jagged_array_constraints-requires : goal.check_jagged_array_constraints-requires
-check_jagged_array_constraints-requires c = record { table = c.requires.table; acyclic = (c.requires.acyclic.0, c.requires.acyclic.2) }
-
 pub returns-then-jagged-eq1 : goal.returns-then-jagged-eq1
 returns-then-jagged-eq1 c = (element_jagged _ _ _ _ c.if-jagged-eq1.true c.check_jagged_array_constraints.ensures.0, c.requires.acyclic.1, c.check_jagged_array_constraints.ensures.1)
 
-pub type_size_depends_on_field_refs_recursive-requires : goal.type_size_depends_on_field_refs_recursive-requires
-type_size_depends_on_field_refs_recursive-requires c = (c.requires.table.0, c.requires.table.1, c.requires.acyclic.0, c.requires.acyclic.1)
-
 pub returns-then-not-type_size_depends_on_field_refs_recursive : goal.returns-then-not-type_size_depends_on_field_refs_recursive
 returns-then-not-type_size_depends_on_field_refs_recursive c = (fine _ _ _ (element_fine _ _ _ _ c.if-jagged-eq1.false (sym c.if-not-type_size_depends_on_field_refs_recursive.true ∙ c.type_size_depends_on_field_refs_recursive.ensures.0)), c.type_size_depends_on_field_refs_recursive.ensures.1, c.requires.acyclic.2)
-
-pub set_chain-requires : goal.set_chain-requires
-set_chain-requires c = omega (arith, c.requires.table.2)
 
 pub returns : goal.returns
 returns c = (element_only _ _ c.args.list.now c.set_chain.ensures (element_varies _ _ _ _ c.if-jagged-eq1.false (sym c.if-not-type_size_depends_on_field_refs_recursive.false ∙ c.type_size_depends_on_field_refs_recursive.ensures.0)), c.type_size_depends_on_field_refs_recursive.ensures.1, c.requires.acyclic.2)

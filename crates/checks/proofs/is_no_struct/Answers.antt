@@ -1,16 +1,17 @@
-use Rattle.fields.proofs.Lookups.{definition_at_lem, definition_no}
+use mathlib.Core.Bool.{not}
+use mathlib.Core.Path.{ap, ◌∙◌}
+use Rattle.fields.proofs.Lookups.{defined, undefined}
 use Rattle.checks.proofs.ElementChecks.{struct_nowhere, struct_no, struct_yes}
-use borrow.Enum.Refused.{opened}
 use Rattle.checks.proofs.is_no_struct.Goals as goal
+use Rattle.checks.proofs.is_no_struct.Goals.{in-Struct, in_default-matches}
 
 pub returns-in_default : goal.returns-in_default
-returns-in_default c = struct_nowhere _ _ (definition_no _ _ _ c.in_default.is c.find_definition-found.ensures)
-
-pub shape_at-shape-requires : goal.shape_at-shape-requires
-shape_at-shape-requires c = (definition_at_lem _ _ _ c.in-At.is c.find_definition-found.ensures).reads
-
-pub returns-in_default-shape : goal.returns-in_default-shape
-returns-in_default-shape c = struct_no (definition_at_lem _ _ _ c.in-At.is c.find_definition-found.ensures) c.shape_at-shape.result (opened c.in_default-shape.in_default-shape-own.keys2) c.shape_at-shape.ensures
+returns-in_default c = struct_nowhere _ _ (undefined c.requires _ c.in_default.ensures)
 
 pub returns : goal.returns
-returns c = struct_yes (definition_at_lem _ _ _ c.in-At.is c.find_definition-found.ensures) c.in-Struct.is c.shape_at-shape.ensures
+returns c =
+    let d = defined c.requires c.in-Some.ensures in
+    elim c.match-matches.branch [
+      | in-Struct w ↦ ap not w.matches-is ∙ struct_yes d c.place_of-at.ensures.at _ c.shape_at.ensures w.in-Struct.is
+      | in_default-matches w ↦ ap not w.matches-is ∙ struct_no d c.place_of-at.ensures.at _ c.shape_at.ensures w.in_default-matches.not-Struct
+    ]

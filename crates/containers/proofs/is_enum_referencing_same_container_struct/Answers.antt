@@ -1,18 +1,14 @@
--- `containers::is_enum_referencing_same_container_struct` meets its contract: the invariant is that of `Containing`.
-use Prim.Native.Nat.{ℕ, ◌-◌}
+-- The invariant is that of `Containing`.
 use native.Mathlib.Omega.{arith}
 use mathlib.Core.Path.{sym, ◌∙◌}
-use Rattle.bundle.specs.Definitions.{bundle_of}
-use Rattle.containers.specs.Containers.{LeadFor}
-use Rattle.containers.proofs.Containing.{Containing, containing_start, containing_here, containing_next, containing_end}
-use Rattle.containers.proofs.is_enum_referencing_same_container_struct.Statement.{statement}
+use Rattle.containers.proofs.Containing.{containing_start, containing_here, containing_next, containing_end}
 use Rattle.containers.proofs.is_enum_referencing_same_container_struct.Goals as goal
 
-pub loop-i-init : goal.loop-i-init
-loop-i-init c e l = rw c.definition_of-i.ensures (containing_start _ _ _)
+pub returns-in_default : goal.returns-in_default
+returns-in_default c e l = containing_end c.requires.0 (containing_start _ _ _) (omega (arith, c.in_default.ensures, c.requires.0.count))
 
-pub contains-requires : goal.contains-requires
-contains-requires c = (c.requires.0, c.requires.1, c.loop-i-test.true)
+pub loop-i-init : goal.loop-i-init
+loop-i-init c e l = rw c.in-Some.ensures.0 (containing_start _ _ _)
 
 pub returns-then-contains : goal.returns-then-contains
 returns-then-contains c e l = containing_here c.requires.0 (c.loop-i.invariant e l) c.loop-i-test.true (sym c.if-contains.true ∙ c.contains.ensures e l)

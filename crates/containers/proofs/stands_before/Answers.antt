@@ -1,18 +1,26 @@
-use Rattle.fields.proofs.Lookups.{definition_at_lem, definition_no, struct_none}
+use mathlib.Core.Path.{sym, ◌∙◌}
+use Rattle.fields.proofs.Lookups.{defined, undefined, struct_none}
 use Rattle.field_index.proofs.Order.{noted_there}
-use Rattle.containers.proofs.Before.{before_zero, before_no, before_shown}
+use Rattle.containers.proofs.Before.{before_none, before_no, before_unnamed, before_shown}
 use Rattle.containers.proofs.stands_before.Goals as goal
 
-pub returns-then-held-eq0 : goal.returns-then-held-eq0
-returns-then-held-eq0 c e p = before_zero _ e _ _ p c.if-held-eq0.true
-
 pub returns-in_default : goal.returns-in_default
-returns-in_default c e p = before_no _ e _ _ (struct_none _ _ (definition_no _ _ _ c.in_default.is c.find_definition-found.ensures))
+returns-in_default c e p = before_none _ e _ _ (sym c.in_default.is ∙ p)
 
-pub index_of-requires : goal.index_of-requires
-index_of-requires c = let a = c in let d = (definition_at_lem _ _ _ c.in-At.is c.find_definition-found.ensures) in
-    (noted_there a.requires.0 a.requires.1 d.below, (_, a.requires.1.each _ d.below))
+pub returns-in_default-definition_of : goal.returns-in_default-definition_of
+returns-in_default-definition_of c e p = before_no _ e _ _ (struct_none _ _ (undefined c.requires.0 _ c.in_default-definition_of.ensures))
+
+pub last_index_of-requires : goal.last_index_of-requires
+last_index_of-requires c =
+    let d = defined c.requires.0 c.in-Some-definition_of.ensures in
+    (noted_there c.requires.0 c.requires.1 d.below, (_, c.requires.1.each _ d.below))
+
+pub returns-in_default-last_index_of : goal.returns-in_default-last_index_of
+returns-in_default-last_index_of c e p =
+    let d = defined c.requires.0 c.in-Some-definition_of.ensures in
+    before_unnamed _ e _ _ _ _ d (sym c.in-Some.is ∙ p) (c.in_default-last_index_of.ensures _ (c.requires.1.each _ d.below))
 
 pub returns : goal.returns
-returns c e p = let a = c in let d = (definition_at_lem _ _ _ c.in-At.is c.find_definition-found.ensures) in
-    before_shown a.requires.0 d e a.args.field a.args.held c.index_of.result p c.if-held-eq0.false (c.index_of.ensures _ (a.requires.1.each _ d.below))
+returns c e p =
+    let d = defined c.requires.0 c.in-Some-definition_of.ensures in
+    before_shown _ e _ _ _ _ d (sym c.in-Some.is ∙ p) (c.in-Some-last_index_of.ensures _ (c.requires.1.each _ d.below))

@@ -1,16 +1,14 @@
 use mathlib.Core.Path.{◌∙◌}
-use Rattle.fields.proofs.Lookups.{definition_at_lem, definition_no}
+use native.Mathlib.Omega.{arith}
+use Rattle.fields.proofs.Lookups.{defined, undefined}
 use Rattle.checks.proofs.ChainChecks.{size_is, size_none}
 use Rattle.cycles.proofs.size_depends.Goals as goal
 
-pub find_definition-found-requires : goal.find_definition-found-requires
-find_definition-found-requires c = c.requires.0
-
 pub returns-in_default : goal.returns-in_default
-returns-in_default c = (size_none _ _ (definition_no _ _ _ c.in_default.is c.find_definition-found.ensures), c.requires.2)
+returns-in_default c = (size_none _ _ (undefined c.requires.0 _ c.in_default.ensures), c.requires.2)
 
 pub type_size_depends_on_field_refs-requires : goal.type_size_depends_on_field_refs-requires
-type_size_depends_on_field_refs-requires c = (c.requires.0, (definition_at_lem _ _ _ c.in-At.is c.find_definition-found.ensures).below, c.requires.1, c.requires.2)
+type_size_depends_on_field_refs-requires c = (c.requires.0, omega (arith, c.in-Some.ensures.1, c.requires.0.count), c.requires.1, c.requires.2)
 
 pub returns : goal.returns
-returns c = (c.type_size_depends_on_field_refs.ensures.0 ∙ size_is (definition_at_lem _ _ _ c.in-At.is c.find_definition-found.ensures), c.type_size_depends_on_field_refs.ensures.1)
+returns c = (c.type_size_depends_on_field_refs.ensures.0 ∙ size_is (defined c.requires.0 c.in-Some.ensures), c.type_size_depends_on_field_refs.ensures.1)

@@ -1,5 +1,4 @@
 -- `decimal::put_decimal` meets its contract, by recursion on the number.
-use Prim.Native.Nat.{ℕ, ◌<◌}
 use native.Mathlib.Omega.{arith}
 use mathlib.Core.Path.{ap}
 use lib.ListN.{length}

@@ -1,25 +1,35 @@
--- `decimal::write_numbers` meets its contract: the invariant is that of `Writing`.
-use Prim.Native.Nat.{◌-◌}
-use native.Mathlib.Omega.{arith}
-use lib.ListN.{get_or}
-use Rattle.decimal.proofs.DecimalLaws.{line_size}
-use Rattle.decimal.proofs.Writing.{Listing, listing_start, listing_next, listing_end}
+use Rattle.std.proofs.Common.{sym, append-nil, take_all, arith, ◌+◌, length}
+use Rattle.decimal.specs.Decimal.{lines}
+use Rattle.decimal.proofs.DecimalLaws.{line_within}
+use Rattle.decimal.proofs.Writing.{writes_end, room_more, lines_next}
 use Rattle.decimal.proofs.write_numbers.Goals as goal
 
-pub loop-i-init : goal.loop-i-init
-loop-i-init c = listing_start _ _ _ _ _ (omega (arith, c.requires.1))
-
-pub overflow_cast-list : goal.overflow_cast-list
-overflow_cast-list c = record { fits = omega (arith, c.type_inv.list c.loop-i.i) }
+pub loop-number-init : goal.loop-number-init
+unfolding lines
+loop-number-init g c = record { writes = record { room = omega (arith, c.requires); places = sym (append-nil _) }; far = omega arith }
 
 pub put_line-at-requires : goal.put_line-at-requires
-put_line-at-requires c = omega (arith, c.loop-i.invariant.far, c.loop-i.invariant.size, c.requires.1, line_size 9 (get_or c.args.list.now c.loop-i.i 0) (omega (arith, c.type_inv.list c.loop-i.i)))
+put_line-at-requires g c =
+    omega (
+      arith,
+      c.requires,
+      c.loop-number.invariant.far,
+      c.loop-number.auto.out,
+      line_within g.T.Number.digits c.wide.result c.wide.ensures.fits.0 c.wide.ensures.fits.1,
+      room_more (g.T.Number.digits + 1) c.loop-number.number-index (length c.args.list.now) c.loop-number-test.true,
+    )
 
-pub loop-i-preserved : goal.loop-i-preserved
-loop-i-preserved c = listing_next c.loop-i.invariant c.loop-i-test.true c.requires.0 (line_size 9 (get_or c.args.list.now c.loop-i.i 0) (omega (arith, c.type_inv.list c.loop-i.i))) c.put_line-at.ensures c.put_line-at.auto.out
-
-pub shape_of-out : goal.shape_of-out
-shape_of-out c = c.loop-i.invariant.size
+pub loop-number-preserved : goal.loop-number-preserved
+loop-number-preserved g c =
+    record {
+      writes = lines_next g.T.Number.value c.args.list.now c.loop-number.invariant.writes c.loop-number-test.true c.number-item.is c.wide.ensures.same c.put_line-at.ensures;
+      far = omega (
+        arith,
+        c.loop-number.invariant.far,
+        writes_end c.put_line-at.ensures c.loop-number.invariant.writes.room,
+        line_within g.T.Number.digits c.wide.result c.wide.ensures.fits.0 c.wide.ensures.fits.1,
+      );
+    }
 
 pub returns : goal.returns
-returns c = listing_end c.loop-i.invariant c.loop-i-test.false
+returns g c = rw (← take_all c.loop-number.number-index c.args.list.now (omega (arith, c.loop-number-test.false))) c.loop-number.invariant.writes

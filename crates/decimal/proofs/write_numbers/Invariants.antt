@@ -1,12 +1,9 @@
-use Prim.Native.Nat.{◌-◌}
-use native.Mathlib.Omega.{arith}
-use lib.ListN.{get_or}
-use Rattle.decimal.proofs.DecimalLaws.{line_size}
-use Rattle.decimal.proofs.Writing.{Listing, listing_start, listing_next, listing_end}
+use Rattle.std.proofs.Common.{◌+◌, ◌*◌, ◌≤◌, map, take}
+use Rattle.decimal.specs.Decimal.{lines, Writes}
 use Rattle.decimal.proofs.write_numbers.Given as goal
 
-abbrev pub invariant-loop-i : goal.invariant-loop-i
-invariant-loop-i l = Listing 11 l.start l.list l.n l.initial.out l.out l.at l.i
-
-abbrev pub decreases-loop-i : goal.decreases-loop-i
-decreases-loop-i l = l.n - l.i
+abbrev pub invariant-loop-number : goal.invariant-loop-number
+invariant-loop-number g l = record {
+  writes : Writes (lines (map g.T.Number.value (take l.number-index l.list))) l.initial.out l.start l.out l.at;
+  far : l.at ≤ l.start + (g.T.Number.digits + 1) * l.number-index;
+}

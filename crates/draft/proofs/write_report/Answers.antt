@@ -22,14 +22,11 @@ overflow_cast-counted c = record { fits = omega (arith, c.validate_layout_constr
 pub put_two-requires : goal.put_two-requires
 put_two-requires c = omega (arith, c.put_byte-second.ensures.behind)
 
-pub copy_records-requires : goal.copy_records-requires
-copy_records-requires c = (omega (arith, c.validate_layout_constraints-counted.ensures.0.puts.behind), omega (arith, c.if-counted-le-DRAFT.true, c.validate_layout_constraints-counted.auto.out, length-replicate {A = ℕ} 1024 0), c.if-counted-le-DRAFT.true)
-
 pub shape_of-work-then-counted-le-DRAFT : goal.shape_of-work-then-counted-le-DRAFT
 shape_of-work-then-counted-le-DRAFT c = c.validate_layout_constraints-counted.auto.work
 
 pub returns-then-counted-le-DRAFT : goal.returns-then-counted-le-DRAFT
-returns-then-counted-le-DRAFT c = written_whole _ c.validate_layout_constraints-counted.ensures.0 (omega arith) c.put_byte-second.ensures c.put_two.ensures (drafted refl c.validate_layout_constraints-counted.ensures.0 (omega (arith, c.if-counted-le-DRAFT.true, length-replicate {A = ℕ} 1024 0)) c.copy_records.ensures)
+returns-then-counted-le-DRAFT c = written_whole _ c.validate_layout_constraints-counted.ensures.0 (omega arith) c.put_byte-second.ensures c.put_two.ensures (drafted refl c.validate_layout_constraints-counted.ensures.0 (omega (arith, c.if-counted-le-DRAFT.true, length-replicate {A = ℕ} 1024 0)) c.put_bytes.ensures)
 
 pub validate_layout_constraints-written-requires : goal.validate_layout_constraints-written-requires
 validate_layout_constraints-written-requires c = record { edges_prepared = (c.requires.edges_prepared.0, omega (arith, c.requires.edges_prepared.1, c.validate_layout_constraints-counted.auto.work)); layout_of = (c.requires.layout_of.0, start_room _ c.requires.layout_of.1, c.requires.layout_of.2); acyclic = (c.requires.acyclic.0, c.validate_layout_constraints-counted.ensures.1, c.validate_layout_constraints-counted.ensures.2) }

@@ -1,13 +1,10 @@
-use Prim.Native.Nat.{ℕ, ◌<◌}
 use native.Mathlib.Omega.{arith}
-use Rattle.bundle.specs.declared.Form.TheVariants.{OfExpr}
-use Rattle.bundle.proofs.Forms.{literal_meant, field_ref_meant, sizeof_meant, alignof_meant, binary_meant, unary_meant}
-use Rattle.bundle.proofs.Trees.{expr_deep, expr_there, tree_other, left_reads}
-use Rattle.evaluate.proofs.ValueLaws.{not_expr, expr_opened, literal_there, literal_most, literal_evaluates, field_ref_evaluates, sizeof_evaluates, alignof_evaluates, unary_evaluates, kind_refused, left_refused, right_refused, right_there, both_valued}
-use Prim.Native.Nat.{◌+◌, ◌*◌}
 use mathlib.Core.Path.{refl, sym, ap, ◌∙◌}
-use borrow.Author.Tests.{not-true, not-false}
-use borrow.Enum.Refused.{opened}
+use Rattle.values.specs.Meant.{value_meant}
+use Rattle.bundle.specs.declared.Form.TheVariants.{OfExpr}
+use Rattle.bundle.proofs.Forms.{literal_meant, binary_meant}
+use Rattle.bundle.proofs.Trees.{expr_deep, expr_there, tree_other, left_reads}
+use Rattle.evaluate.proofs.ValueLaws.{not_expr, expr_opened, refused, literal_there, literal_most, literal_valued, literal_end, other_refused, kind_refused, left_refused, right_refused, right_there, both_valued, both_end, returned}
 use Rattle.evaluate.proofs.+values.Goals as goal
 
 pub binary_at-bounds-s-at : goal.binary_at-bounds-s-at
@@ -22,59 +19,55 @@ binary_at-overflow_add-at t c = omega (arith, expr_there _ _ _ c.requires.0)
 pub binary_at-overflow_sub-depth : goal.binary_at-overflow_sub-depth
 binary_at-overflow_sub-depth t c = omega (arith, expr_deep _ _ _ c.requires.0)
 
-pub binary_at-value_at-left-requires : goal.binary_at-value_at-left-requires
-binary_at-value_at-left-requires t c = (omega (arith, c.decreases, expr_deep _ _ _ c.requires.0), left_reads (expr_opened _ _ _ _ c.requires.0 (sym c.requires.1)) c.requires.0 refl)
+pub binary_at-value_at-requires : goal.binary_at-value_at-requires
+binary_at-value_at-requires t c = (omega (arith, c.decreases, expr_deep _ _ _ c.requires.0), left_reads (expr_opened _ _ _ _ c.requires.0 (sym c.requires.1)) c.requires.0 refl)
 
-pub binary_at-returns-in_default : goal.binary_at-returns-in_default
-binary_at-returns-in_default t c = left_refused (expr_opened _ _ _ _ c.requires.0 (sym c.requires.1)) c.requires.0 refl _ c.covered.ensures c.if-not-covered.false _ _ c.in_default.is c.value_at-left.ensures
+pub binary_at-returns-in_err-l : goal.binary_at-returns-in_err-l
+binary_at-returns-in_err-l t c = refused _ _ _ _ _ c.from_residual.ensures.1 (left_refused (expr_opened _ _ _ _ c.requires.0 (sym c.requires.1)) c.requires.0 refl _ c.covered.ensures c.if-not-covered.false _ c.in_err-l.ensures)
 
 pub binary_at-overflow_sub-depth-2 : goal.binary_at-overflow_sub-depth-2
 binary_at-overflow_sub-depth-2 t c = omega (arith, expr_deep _ _ _ c.requires.0)
 
-pub binary_at-value_at-right-requires : goal.binary_at-value_at-right-requires
-binary_at-value_at-right-requires t c = (omega (arith, c.decreases, expr_deep _ _ _ c.requires.0), right_there (expr_opened _ _ _ _ c.requires.0 (sym c.requires.1)) c.requires.0 refl _ _ _ c.in-Value.is c.value_at-left.ensures)
+pub binary_at-value_at-requires-2 : goal.binary_at-value_at-requires-2
+binary_at-value_at-requires-2 t c = (omega (arith, c.decreases, expr_deep _ _ _ c.requires.0), right_there (expr_opened _ _ _ _ c.requires.0 (sym c.requires.1)) c.requires.0 refl _ _ c.in_ok-l.ensures)
 
-pub binary_at-returns-in_default-right : goal.binary_at-returns-in_default-right
-binary_at-returns-in_default-right t c = right_refused (expr_opened _ _ _ _ c.requires.0 (sym c.requires.1)) c.requires.0 refl _ c.covered.ensures c.if-not-covered.false _ _ _ _ _ c.in-Value.is c.in_default-right.is c.value_at-left.ensures c.value_at-right.ensures
+pub binary_at-returns-in_err-r : goal.binary_at-returns-in_err-r
+binary_at-returns-in_err-r t c = refused _ _ _ _ _ c.from_residual-in_err-r.ensures.1 (right_refused (expr_opened _ _ _ _ c.requires.0 (sym c.requires.1)) c.requires.0 refl _ c.covered.ensures c.if-not-covered.false _ _ _ c.in_ok-l.ensures c.in_err-r.ensures)
+
+pub binary_at-returns-in_err-value : goal.binary_at-returns-in_err-value
+unfolding value_meant
+binary_at-returns-in_err-value t c = refused _ _ _ _ _ c.from_residual-in_err-value.ensures.1 (c.in_err-value.ensures ∙ both_valued (expr_opened _ _ _ _ c.requires.0 (sym c.requires.1)) c.requires.0 refl _ _ _ _ (record { sfits = omega arith }) (record { sfits = omega arith }) c.in_ok-l.ensures c.in_ok-r.ensures)
 
 pub binary_at-returns : goal.binary_at-returns
-binary_at-returns t c = both_valued (expr_opened _ _ _ _ c.requires.0 (sym c.requires.1)) c.requires.0 refl _ _ _ _ _ _ c.in-Value.is c.in-Value-right.is (record { sfits = c.in-Value.known_told-1-own.given.0.1 }) (record { sfits = c.in-Value-right.known_told-in-Value-right-1-own.given.0.1 }) c.value_at-left.ensures c.value_at-right.ensures _ c.operate.ensures _ c.with_end.ensures
+binary_at-returns t c = (returned _ _ (record { sfits = omega arith }) (c.in_ok-value.ensures ∙ both_valued (expr_opened _ _ _ _ c.requires.0 (sym c.requires.1)) c.requires.0 refl _ _ _ _ (record { sfits = omega arith }) (record { sfits = omega arith }) c.in_ok-l.ensures c.in_ok-r.ensures), both_end (expr_opened _ _ _ _ c.requires.0 (sym c.requires.1)) c.requires.0 refl _ _ _ _ (record { sfits = omega arith }) (record { sfits = omega arith }) c.in_ok-l.ensures c.in_ok-r.ensures)
 
 pub value_at-bounds-s-at : goal.value_at-bounds-s-at
 value_at-bounds-s-at t c = expr_there _ _ _ c.requires
 
-pub value_at-returns-in_default : goal.value_at-returns-in_default
-value_at-returns-in_default t c = absurd (tree_other (expr_opened _ _ _ _ c.requires c.form_of-form.ensures) c.requires (not_expr _ (opened c.in_default.in_default-own.keys2)))
-
 pub value_at-overflow_add-at : goal.value_at-overflow_add-at
-value_at-overflow_add-at t c = omega (arith, literal_there (expr_opened _ _ _ _ c.requires c.form_of-form.ensures) c.requires c.in-Literal.w (literal_meant (c.in-OfExpr.is ∙ ap OfExpr c.in-Literal.is)))
+value_at-overflow_add-at t c = omega (arith, literal_there (expr_opened _ _ _ _ c.requires c.form_of.ensures) c.requires _ (literal_meant (c.in-OfExpr.is ∙ ap OfExpr c.in-Literal.is)))
 
 pub value_at-number_at-requires : goal.value_at-number_at-requires
-value_at-number_at-requires t c = (literal_there (expr_opened _ _ _ _ c.requires c.form_of-form.ensures) c.requires _ (literal_meant (c.in-OfExpr.is ∙ ap OfExpr c.in-Literal.is)), literal_most (expr_opened _ _ _ _ c.requires c.form_of-form.ensures) c.requires _ (literal_meant (c.in-OfExpr.is ∙ ap OfExpr c.in-Literal.is)) (omega (arith, c.type_inv.s c.args.at)))
+value_at-number_at-requires t c = (rw c.from-width.ensures (literal_there (expr_opened _ _ _ _ c.requires c.form_of.ensures) c.requires _ (literal_meant (c.in-OfExpr.is ∙ ap OfExpr c.in-Literal.is))), rw c.from-width.ensures (literal_most (expr_opened _ _ _ _ c.requires c.form_of.ensures) c.requires _ (literal_meant (c.in-OfExpr.is ∙ ap OfExpr c.in-Literal.is)) (omega (arith, c.type_inv.s c.args.at))))
 
-pub value_at-overflow_add-at-in-Literal : goal.value_at-overflow_add-at-in-Literal
-value_at-overflow_add-at-in-Literal t c = omega (arith, literal_there (expr_opened _ _ _ _ c.requires c.form_of-form.ensures) c.requires c.in-Literal.w (literal_meant (c.in-OfExpr.is ∙ ap OfExpr c.in-Literal.is)))
+pub value_at-returns-in_err-value-in-Literal : goal.value_at-returns-in_err-value-in-Literal
+unfolding value_meant
+value_at-returns-in_err-value-in-Literal t c = refused _ _ _ _ _ c.from_residual.ensures.1 (c.in_err-value-in-Literal.ensures ∙ literal_valued (expr_opened _ _ _ _ c.requires c.form_of.ensures) c.requires _ (literal_meant (c.in-OfExpr.is ∙ ap OfExpr c.in-Literal.is)) _ (c.number_at.ensures ∙ rw c.from-width.ensures))
 
-pub value_at-overflow_add-at-in-Literal-2 : goal.value_at-overflow_add-at-in-Literal-2
-value_at-overflow_add-at-in-Literal-2 t c = omega (arith, literal_there (expr_opened _ _ _ _ c.requires c.form_of-form.ensures) c.requires c.in-Literal.w (literal_meant (c.in-OfExpr.is ∙ ap OfExpr c.in-Literal.is)))
+pub value_at-overflow_add-result : goal.value_at-overflow_add-result
+value_at-overflow_add-result t c = omega (arith, literal_there (expr_opened _ _ _ _ c.requires c.form_of.ensures) c.requires _ (literal_meant (c.in-OfExpr.is ∙ ap OfExpr c.in-Literal.is)))
+
+pub value_at-overflow_add-result-in-Literal : goal.value_at-overflow_add-result-in-Literal
+value_at-overflow_add-result-in-Literal t c = omega (arith, c.from-width.ensures, literal_there (expr_opened _ _ _ _ c.requires c.form_of.ensures) c.requires _ (literal_meant (c.in-OfExpr.is ∙ ap OfExpr c.in-Literal.is)))
 
 pub value_at-binary_at-requires : goal.value_at-binary_at-requires
-value_at-binary_at-requires t c = (omega (arith, c.decreases), (c.requires, sym c.form_of-form.ensures ∙ binary_meant (c.in-OfExpr.is ∙ ap OfExpr c.in-Binary.is)))
+value_at-binary_at-requires t c = (omega (arith, c.decreases), (c.requires, sym c.form_of.ensures ∙ binary_meant (c.in-OfExpr.is ∙ ap OfExpr c.in-Binary.is)))
 
-pub value_at-returns-in-Literal : goal.value_at-returns-in-Literal
-value_at-returns-in-Literal t c = literal_evaluates (expr_opened _ _ _ _ c.requires c.form_of-form.ensures) c.requires _ (literal_meant (c.in-OfExpr.is ∙ ap OfExpr c.in-Literal.is)) _ _ c.number_at.ensures c.literal_value-value.ensures _ c.with_end.ensures
+pub value_at-returns-in_ok-value-in-Literal : goal.value_at-returns-in_ok-value-in-Literal
+value_at-returns-in_ok-value-in-Literal t c = (returned _ _ (record { sfits = omega arith }) (c.in_ok-value-in-Literal.ensures ∙ literal_valued (expr_opened _ _ _ _ c.requires c.form_of.ensures) c.requires _ (literal_meant (c.in-OfExpr.is ∙ ap OfExpr c.in-Literal.is)) _ (c.number_at.ensures ∙ rw c.from-width.ensures)), rw c.from-width.ensures (literal_end (expr_opened _ _ _ _ c.requires c.form_of.ensures) c.requires _ (literal_meant (c.in-OfExpr.is ∙ ap OfExpr c.in-Literal.is))))
 
-pub value_at-returns-in-FieldRef : goal.value_at-returns-in-FieldRef
-value_at-returns-in-FieldRef t c = field_ref_evaluates (expr_opened _ _ _ _ c.requires c.form_of-form.ensures) c.requires c.in-FieldRef.field-0 (field_ref_meant (c.in-OfExpr.is ∙ ap OfExpr c.in-FieldRef.is))
+pub value_at-returns-in_default-form : goal.value_at-returns-in_default-form
+value_at-returns-in_default-form t c = other_refused c.requires _ _ c.in-OfExpr.is (expr_opened _ _ _ _ c.requires c.form_of.ensures) c.in_default-form.not-Literal c.in_default-form.not-Binary
 
-pub value_at-returns-in-Sizeof : goal.value_at-returns-in-Sizeof
-value_at-returns-in-Sizeof t c = sizeof_evaluates (expr_opened _ _ _ _ c.requires c.form_of-form.ensures) c.requires (sizeof_meant (c.in-OfExpr.is ∙ ap OfExpr c.in-Sizeof.is))
-
-pub value_at-returns-in-Alignof : goal.value_at-returns-in-Alignof
-value_at-returns-in-Alignof t c = alignof_evaluates (expr_opened _ _ _ _ c.requires c.form_of-form.ensures) c.requires (alignof_meant (c.in-OfExpr.is ∙ ap OfExpr c.in-Alignof.is))
-
-pub value_at-returns-in-Binary : goal.value_at-returns-in-Binary
-value_at-returns-in-Binary t c = c.binary_at.ensures
-
-pub value_at-returns-in-Unary : goal.value_at-returns-in-Unary
-value_at-returns-in-Unary t c = unary_evaluates (expr_opened _ _ _ _ c.requires c.form_of-form.ensures) c.requires (unary_meant (c.in-OfExpr.is ∙ ap OfExpr c.in-Unary.is))
+pub value_at-returns-in_default : goal.value_at-returns-in_default
+value_at-returns-in_default t c = absurd (tree_other (expr_opened _ _ _ _ c.requires c.form_of.ensures) c.requires (not_expr _ c.in_default.not-OfExpr))

@@ -1,14 +1,11 @@
-use Rattle.evaluate.proofs.ValueLaws.{refused_count, negative_count, count_casts, count_is}
+use native.Mathlib.Omega.{arith}
+use mathlib.Core.Path.{sym, ap, ◌∙◌}
+use Rattle.extents.specs.Meant.{count_meant}
+use Rattle.evaluate.proofs.ValueLaws.{no_count, count_is}
 use Rattle.evaluate.proofs.count_of.Goals as goal
 
-pub returns-in_default : goal.returns-in_default
-returns-in_default c = refused_count _ _ c.value_of-value.ensures _ c.in_default.is
-
-pub returns-then-z-lt0 : goal.returns-then-z-lt0
-returns-then-z-lt0 c = negative_count _ _ c.value_of-value.ensures _ c.in-Is.is (record { sfits = c.in-Is.known_told-1-own.given.0.1 }) c.if-z-lt0.true
-
-pub overflow_cast-result : goal.overflow_cast-result
-overflow_cast-result c = count_casts _ _ c.value_of-value.ensures _ c.in-Is.is (record { sfits = c.in-Is.known_told-1-own.given.0.1 }) c.if-z-lt0.false
+pub returns-in_err-value : goal.returns-in_err-value
+returns-in_err-value c = ap count_meant c.from_residual.ensures ∙ no_count _ _ c.value_of.ensures (sym c.ok.ensures.value ∙ c.in_err-value.was)
 
 pub returns : goal.returns
-returns c = count_is _ _ c.value_of-value.ensures _ c.in-Is.is (record { sfits = c.in-Is.known_told-1-own.given.0.1 }) c.if-z-lt0.false
+returns c = ap count_meant c.ok-2.ensures.value ∙ count_is _ _ _ _ c.value_of.ensures (sym c.ok.ensures.value ∙ c.in_ok-value.was) (record { sfits = omega arith }) c.try_from.ensures

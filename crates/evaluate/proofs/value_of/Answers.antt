@@ -1,8 +1,9 @@
-use Rattle.evaluate.proofs.ValueLaws.{found_value, found_refusal}
+use native.Mathlib.Omega.{arith}
+use Rattle.evaluate.proofs.ValueLaws.{value_refused, value_returned}
 use Rattle.evaluate.proofs.value_of.Goals as goal
 
-pub returns-in-Value : goal.returns-in-Value
-returns-in-Value c = found_value _ _ _ _ _ _ c.in-Value.is (record { sfits = c.in-Value.known_told-1-own.given.0.1 }) c.value_at-value.ensures
+pub returns-in_err-value : goal.returns-in_err-value
+returns-in_err-value c = value_refused _ _ _ c.from_residual.ensures.1 c.in_err-value.ensures
 
-pub returns-in-Refused : goal.returns-in-Refused
-returns-in-Refused c = found_refusal _ _ _ _ _ c.in-Refused.is c.value_at-value.ensures
+pub returns : goal.returns
+returns c = value_returned _ _ (record { sfits = omega arith }) c.in_ok-value.ensures.0

@@ -1,5 +1,5 @@
 use mathlib.Core.Path.{◌∙◌}
-use Rattle.extents.proofs.Laws.{join_field, join_member}
+use Rattle.extents.proofs.Parts.{join_field, join_member}
 use Rattle.extents.proofs.join.Goals as goal
 
 pub returns-then-kind-eq80 : goal.returns-then-kind-eq80

@@ -1,8 +1,8 @@
-use Rattle.extents.proofs.Laws.{vary_sized, vary_unsized}
+use Rattle.extents.proofs.Parts.{vary_sized, vary_unsized}
 use Rattle.extents.proofs.vary.Goals as goal
 
-pub returns-in-Sized : goal.returns-in-Sized
-returns-in-Sized c = vary_sized _ _ _ c.in-Sized.is
+pub returns-in-Ok : goal.returns-in-Ok
+returns-in-Ok c = vary_sized _ _ c.in-Ok.is
 
-pub returns-in-Unsized : goal.returns-in-Unsized
-returns-in-Unsized c = vary_unsized _ _ _ c.in-Unsized.is c.least.ensures
+pub returns-in-Err : goal.returns-in-Err
+returns-in-Err c = vary_unsized _ _ _ c.in-Err.is c.min.ensures

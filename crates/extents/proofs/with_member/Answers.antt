@@ -1,14 +1,11 @@
-use Rattle.extents.proofs.Laws.{member_joined, member_part, member_so, member_both}
+use mathlib.Core.Path.{sym, ◌∙◌}
+use Rattle.extents.proofs.Parts.{refused, both_there, member_refused, member_joined}
 use Rattle.extents.proofs.with_member.Goals as goal
 
-pub returns-in-Sized-part : goal.returns-in-Sized-part
-returns-in-Sized-part c = member_joined 0 _ _ c.requires.0 c.requires.1 _ _ _ _ c.in-Sized.is c.in-Sized-part.is _ _ c.greater.ensures c.greater-in-Sized-part.ensures
+pub returns-in_err-so : goal.returns-in_err-so
+returns-in_err-so c = refused _ _ _ _ c.from_residual.ensures.1 (member_refused 0 _ _ c.requires.0 c.requires.1 _ (sym c.both.ensures ∙ c.in_err-so.was))
 
-pub returns-in-Unsized-part : goal.returns-in-Unsized-part
-returns-in-Unsized-part c = member_part 0 _ _ c.requires.0 c.requires.1 _ _ _ c.in-Sized.is c.in-Unsized-part.is
-
-pub returns-in-Sized-part-2 : goal.returns-in-Sized-part-2
-returns-in-Sized-part-2 c = member_so 0 _ _ c.requires.0 c.requires.1 _ c.in-Unsized.is _ _ c.in-Sized-part-2.is
-
-pub returns-in-Unsized-part-2 : goal.returns-in-Unsized-part-2
-returns-in-Unsized-part-2 c = member_both 0 _ _ c.requires.0 c.requires.1 _ c.in-Unsized.is _ _ c.in-Unsized-part-2.is c.least.ensures
+pub returns : goal.returns
+returns c =
+    let b = both_there _ _ _ _ (sym c.both.ensures ∙ c.in_ok-so.was) in
+    member_joined 0 _ _ c.requires.0 c.requires.1 _ _ b.0 b.1 _ _ c.max.ensures c.max-2.ensures

@@ -1,4 +1,3 @@
-use lib.ListN.{length-set}
 use native.Mathlib.Omega.{arith}
 use Rattle.field_index.proofs.Noting.{noted_old, noted_new}
 use Rattle.field_index.proofs.note_name.Goals as goal
@@ -6,9 +5,6 @@ use Rattle.field_index.proofs.note_name.Goals as goal
 pub returns-then-r-d : goal.returns-then-r-d
 returns-then-r-d c = let a = c in
     noted_old a.args.a a.args.n a.args.d c.enter-r.result a.args.k c.enter-r.ensures (omega (arith, a.requires.noted_to.1.few)) a.requires.k_lt_n.2 c.if-r-d.true
-
-pub bounds-notes-a-2 : goal.bounds-notes-a-2
-bounds-notes-a-2 c = simp length-set (omega (arith, c.enter-r.ensures.only.size, c.enter-r.ensures.within, c.requires.noted_to.1.few))
 
 pub returns : goal.returns
 returns c = let a = c in

@@ -1,12 +1,7 @@
-use Prim.Native.Nat.{◌-◌, ◌≤◌}
-use native.Mathlib.Omega.{arith}
+use Prim.Native.Nat.{◌≤◌}
 use Rattle.bundle.specs.Definitions.{Table}
 use Rattle.field_index.specs.Noted.{NotedBelow, Front}
-use Rattle.field_index.proofs.Structs.{below_start, below_end, front_start, front_both, table_front}
 use Rattle.field_index.proofs.note_structs.Given as goal
 
 abbrev pub invariant-loop-i : goal.invariant-loop-i
 invariant-loop-i l = (l.i ≤ l.count) × NotedBelow l.s l.places l.i l.used × Table l.s l.count l.places × Front l.initial.places l.places
-
-abbrev pub decreases-loop-i : goal.decreases-loop-i
-decreases-loop-i l = l.count - l.i

@@ -1,9 +1,7 @@
 -- `fixed::measure_type` and the functions for a type's parts meet their contracts: each way out is a law of `WalkLaws`. The measure is
 -- the depth that is left.
-use Prim.Native.Nat.{ℕ, ◌<◌}
 use native.Mathlib.Omega.{arith}
-use Prim.Native.Nat.{◌+◌, ◌*◌}
-use mathlib.Core.Path.{refl, sym, ap, ◌∙◌}
+use mathlib.Core.Path.{sym, ap, ◌∙◌}
 use Rattle.bundle.specs.declared.Form.TheVariants.{OfType}
 use Rattle.bundle.proofs.Forms.{not_type, primitive_meant, type_ref_meant, struct_meant, union_meant, enum_meant, array_meant, size_union_meant}
 use Rattle.bundle.proofs.PartTrees.{head_no, member_type_reads}
@@ -13,15 +11,14 @@ use Rattle.bundle.proofs.TypeLaws.{struct_ends, union_ends, size_union_ends, enu
 use Rattle.bundle.proofs.Heads.{array_where, count_where}
 use Rattle.bundle.proofs.Parts.{type_opened, type_ref_there}
 use Rattle.fixed.proofs.WalkLaws.{group_count, enum_count, tag_no, array_body, size_no, is_same, closed_same, group_is, group_ended, primitive_is, primitive_ended, type_ref_is, type_ref_ended, struct_is, union_is, size_union_is, enum_is, array_is, enum_group, enum_ended, array_group, array_ended}
-use Rattle.fixed.proofs.WalkLaws.{Joining, joining_start, joining_end, joining_next}
-use borrow.Enum.Refused.{opened}
+use Rattle.fixed.proofs.WalkLaws.{joining_start, joining_end, joining_next}
 use Rattle.fixed.proofs.+measures.Goals as goal
 
 pub measure_array-overflow_add-at : goal.measure_array-overflow_add-at
 measure_array-overflow_add-at t c = omega (arith, (array_where _ _ _ (array_body _ _ _ c.requires.2)).1)
 
 pub measure_array-returns-in_default : goal.measure_array-returns-in_default
-measure_array-returns-in_default t c = absurd (size_no _ _ _ c.requires.2 _ (sym c.in_default.is ∙ c.expr_at-size.ensures))
+measure_array-returns-in_default t c = absurd (size_no _ _ _ c.requires.2 _ (sym c.in_default.is ∙ c.expr_at.ensures))
 
 pub measure_array-overflow_add-at-2 : goal.measure_array-overflow_add-at-2
 measure_array-overflow_add-at-2 t c = omega (arith, (array_where _ _ _ (array_body _ _ _ c.requires.2)).1)
@@ -30,7 +27,7 @@ pub measure_array-count_of-counted-requires : goal.measure_array-count_of-counte
 measure_array-count_of-counted-requires t c = size_reads _ _ _ _ _ (array_body _ _ _ c.requires.2) c.requires.2
 
 pub measure_array-measure_type-m-requires : goal.measure_array-measure_type-m-requires
-measure_array-measure_type-m-requires t c = (omega (arith, c.decreases), (c.requires.0, c.requires.1, element_reads _ _ _ _ _ (array_body _ _ _ c.requires.2) c.requires.2 _ (sym c.in-Next.is ∙ c.expr_at-size.ensures)))
+measure_array-measure_type-m-requires t c = (omega (arith, c.decreases), (c.requires.0, c.requires.1, element_reads _ _ _ _ _ (array_body _ _ _ c.requires.2) c.requires.2 _ (sym c.in-Ok.is ∙ c.expr_at.ensures)))
 
 pub measure_array-overflow_add-at-3 : goal.measure_array-overflow_add-at-3
 measure_array-overflow_add-at-3 t c = omega (arith, (array_where _ _ _ (array_body _ _ _ c.requires.2)).1)
@@ -38,11 +35,8 @@ measure_array-overflow_add-at-3 t c = omega (arith, (array_where _ _ _ (array_bo
 pub measure_array-bounds-s-at : goal.measure_array-bounds-s-at
 measure_array-bounds-s-at t c = omega (arith, (array_where _ _ _ (array_body _ _ _ c.requires.2)).1)
 
-pub measure_array-array_of-requires : goal.measure_array-array_of-requires
-measure_array-array_of-requires t c = c.measure_type-m.ensures.fits
-
 pub measure_array-returns : goal.measure_array-returns
-measure_array-returns t c = record { is = c.array_of.ensures.0 ∙ array_group _ _ _ _ _ (array_body _ _ _ c.requires.2) c.requires.2 (sym c.in-Next.is ∙ c.expr_at-size.ensures) _ _ c.measure_type-m.ensures.is _ c.count_of-counted.ensures; fits = c.array_of.ensures.1; ended = c.measure_type-m.ensures.ended ∙ array_ended _ _ _ _ _ (array_body _ _ _ c.requires.2) c.requires.2 (sym c.in-Next.is ∙ c.expr_at-size.ensures) }
+measure_array-returns t c = record { is = c.array_of.ensures.0 ∙ array_group _ _ _ _ _ (array_body _ _ _ c.requires.2) c.requires.2 (sym c.in-Ok.is ∙ c.expr_at.ensures) _ _ c.measure_type-m.ensures.is _ c.count_of-counted.ensures; fits = c.array_of.ensures.1; ended = c.measure_type-m.ensures.ended ∙ array_ended _ _ _ _ _ (array_body _ _ _ c.requires.2) c.requires.2 (sym c.in-Ok.is ∙ c.expr_at.ensures) }
 
 pub measure_enum-overflow_add-at : goal.measure_enum-overflow_add-at
 measure_enum-overflow_add-at t c = omega (arith, (count_where _ _ _ _ (enum_count _ _ _ c.requires.2)).1)
@@ -54,19 +48,19 @@ pub measure_enum-overflow_add-at-2 : goal.measure_enum-overflow_add-at-2
 measure_enum-overflow_add-at-2 t c = omega (arith, (count_where _ _ _ _ (enum_count _ _ _ c.requires.2)).1)
 
 pub measure_enum-returns-in_default : goal.measure_enum-returns-in_default
-measure_enum-returns-in_default t c = absurd (tag_no _ _ _ c.requires.2 _ (sym c.in_default.is ∙ c.expr_at-tag.ensures))
+measure_enum-returns-in_default t c = absurd (tag_no _ _ _ c.requires.2 _ (sym c.in_default.is ∙ c.expr_at.ensures))
 
 pub measure_enum-bounds-s-at : goal.measure_enum-bounds-s-at
 measure_enum-bounds-s-at t c = omega (arith, (count_where _ _ _ _ (enum_count _ _ _ c.requires.2)).1)
 
 pub measure_enum-measure_members-m-requires : goal.measure_enum-measure_members-m-requires
-measure_enum-measure_members-m-requires t c = (omega (arith, c.decreases), (c.requires.0, c.requires.1, rw c.u16_at-n.ensures (variants_read _ _ _ _ _ _ (enum_count _ _ _ c.requires.2) c.requires.2 _ (sym c.in-Next.is ∙ c.expr_at-tag.ensures))))
+measure_enum-measure_members-m-requires t c = (omega (arith, c.decreases), (c.requires.0, c.requires.1, rw c.u16_at-n.ensures (variants_read _ _ _ _ _ _ (enum_count _ _ _ c.requires.2) c.requires.2 _ (sym c.in-Ok.is ∙ c.expr_at.ensures))))
 
 pub measure_enum-closed_at-requires : goal.measure_enum-closed_at-requires
 measure_enum-closed_at-requires t c = (omega (arith, (count_where _ _ _ _ (enum_count _ _ _ c.requires.2)).1), c.measure_members-m.ensures.fits)
 
 pub measure_enum-returns : goal.measure_enum-returns
-measure_enum-returns t c = closed_same _ _ _ c.closed_at.ensures (rw c.u16_at-n.ensures at c.measure_members-m.ensures) (enum_group _ _ _ _ _ _ (enum_count _ _ _ c.requires.2) c.requires.2 (sym c.in-Next.is ∙ c.expr_at-tag.ensures) _) (enum_ended _ _ _ _ _ _ (enum_count _ _ _ c.requires.2) c.requires.2 (sym c.in-Next.is ∙ c.expr_at-tag.ensures))
+measure_enum-returns t c = closed_same _ _ _ c.closed_at.ensures (rw c.u16_at-n.ensures at c.measure_members-m.ensures) (enum_group _ _ _ _ _ _ (enum_count _ _ _ c.requires.2) c.requires.2 (sym c.in-Ok.is ∙ c.expr_at.ensures) _) (enum_ended _ _ _ _ _ _ (enum_count _ _ _ c.requires.2) c.requires.2 (sym c.in-Ok.is ∙ c.expr_at.ensures))
 
 pub measure_group-overflow_add-at : goal.measure_group-overflow_add-at
 measure_group-overflow_add-at t c = omega (arith, (count_where _ _ _ _ (group_count _ _ _ _ c.requires.2)).1)
@@ -89,92 +83,86 @@ measure_group-closed_at-requires t c = (omega (arith, (count_where _ _ _ _ (grou
 pub measure_group-returns : goal.measure_group-returns
 measure_group-returns t c = closed_same _ _ _ c.closed_at.ensures (rw c.u16_at-n.ensures at c.measure_members-m.ensures) (group_is _ _ _ _ _ _ (group_count _ _ _ _ c.requires.2) c.requires.2 _) (group_ended _ _ _ _ _ _ (group_count _ _ _ _ c.requires.2) c.requires.2)
 
-pub measure_members-loop-rest-init : goal.measure_members-loop-rest-init
-measure_members-loop-rest-init t c = joining_start c.requires.2
-
-pub measure_members-member_head_at-head-requires : goal.measure_members-member_head_at-head-requires
-measure_members-member_head_at-head-requires t c = c.form_of-form.ensures
+pub measure_members-loop-init : goal.measure_members-loop-init
+measure_members-loop-init t c = joining_start c.requires.2
 
 pub measure_members-returns-in_default : goal.measure_members-returns-in_default
-measure_members-returns-in_default t c = absurd (head_no _ _ _ _ _ c.loop-rest-test.true c.loop-rest.invariant.reads _ (sym c.in_default.is ∙ c.member_head_at-head.ensures))
+measure_members-returns-in_default t c = absurd (head_no _ _ _ _ _ (omega (arith, c.loop-test.true)) c.loop.invariant.reads _ (sym c.in_default.is ∙ c.member_head_at.ensures))
 
 pub measure_members-measure_type-m-requires : goal.measure_members-measure_type-m-requires
-measure_members-measure_type-m-requires t c = (omega (arith, c.decreases), (c.requires.0, c.requires.1, member_type_reads _ _ _ _ _ c.loop-rest-test.true c.loop-rest.invariant.reads _ (sym c.in-Next.is ∙ c.member_head_at-head.ensures)))
+measure_members-measure_type-m-requires t c = (omega (arith, c.decreases), (c.requires.0, c.requires.1, member_type_reads _ _ _ _ _ (omega (arith, c.loop-test.true)) c.loop.invariant.reads _ (sym c.in-Ok.is ∙ c.member_head_at.ensures)))
 
-pub measure_members-join-so-requires : goal.measure_members-join-so-requires
-measure_members-join-so-requires t c = (c.loop-rest.invariant.fits, c.measure_type-m.ensures.fits)
-
-pub measure_members-loop-rest-preserved : goal.measure_members-loop-rest-preserved
-measure_members-loop-rest-preserved t c = joining_next c.loop-rest.invariant c.loop-rest-test.true _ (sym c.in-Next.is ∙ c.member_head_at-head.ensures) _ _ _ c.measure_type-m.ensures refl c.join-so.ensures
+pub measure_members-loop-preserved : goal.measure_members-loop-preserved
+measure_members-loop-preserved t c = joining_next c.loop.invariant c.loop-test.true _ (sym c.in-Ok.is ∙ c.member_head_at.ensures) c.measure_type-m.ensures c.join-so.ensures
 
 pub measure_members-returns : goal.measure_members-returns
-measure_members-returns t c = joining_end c.loop-rest.invariant (omega arith) _ refl refl
+measure_members-returns t c = joining_end c.loop.invariant c.loop-test.false
 
 pub measure_type-bounds-s-at : goal.measure_type-bounds-s-at
 measure_type-bounds-s-at t c = type_there _ _ _ c.requires.2
 
 pub measure_type-returns-in_default : goal.measure_type-returns-in_default
-measure_type-returns-in_default t c = absurd (no_other (type_opened _ _ _ _ c.requires.2 c.form_of-form.ensures) c.requires.2 (not_type _ (opened c.in_default.in_default-own.keys2)))
+measure_type-returns-in_default t c = absurd (no_other (type_opened _ _ _ _ c.requires.2 c.form_of.ensures) c.requires.2 (not_type _ c.in_default.not-OfType))
 
 pub measure_type-overflow_add-body : goal.measure_type-overflow_add-body
 measure_type-overflow_add-body t c = omega (arith, type_there _ _ _ c.requires.2)
 
 pub measure_type-primitive-requires : goal.measure_type-primitive-requires
-measure_type-primitive-requires t c = sym c.form_of-form.ensures ∙ primitive_meant (cc)
+measure_type-primitive-requires t c = sym c.form_of.ensures ∙ primitive_meant (cc)
 
 pub measure_type-measure_name-requires : goal.measure_type-measure_name-requires
-measure_type-measure_name-requires t c = (type_ref_there (type_opened _ _ _ _ c.requires.2 c.form_of-form.ensures) c.requires.2 (type_ref_meant (c.in-OfType.is ∙ ap OfType c.in-TypeRef.is)), c.requires.0, c.requires.1)
+measure_type-measure_name-requires t c = (type_ref_there (type_opened _ _ _ _ c.requires.2 c.form_of.ensures) c.requires.2 (type_ref_meant (c.in-OfType.is ∙ ap OfType c.in-TypeRef.is)), c.requires.0, c.requires.1)
 
 pub measure_type-overflow_add-result : goal.measure_type-overflow_add-result
-measure_type-overflow_add-result t c = omega (arith, type_ref_there (type_opened _ _ _ _ c.requires.2 c.form_of-form.ensures) c.requires.2 (type_ref_meant (c.in-OfType.is ∙ ap OfType c.in-TypeRef.is)))
+measure_type-overflow_add-result t c = omega (arith, type_ref_there (type_opened _ _ _ _ c.requires.2 c.form_of.ensures) c.requires.2 (type_ref_meant (c.in-OfType.is ∙ ap OfType c.in-TypeRef.is)))
 
 pub measure_type-overflow_sub-depth : goal.measure_type-overflow_sub-depth
 measure_type-overflow_sub-depth t c = omega (arith, type_deep _ _ _ c.requires.2)
 
 pub measure_type-measure_group-requires : goal.measure_type-measure_group-requires
-measure_type-measure_group-requires t c = (omega (arith, type_deep _ _ _ c.requires.2, c.decreases), (c.requires.0, c.requires.1, struct_reads (type_opened _ _ _ _ c.requires.2 c.form_of-form.ensures) c.requires.2 (struct_meant (c.in-OfType.is ∙ ap OfType c.in-Struct.is))))
+measure_type-measure_group-requires t c = (omega (arith, type_deep _ _ _ c.requires.2, c.decreases), (c.requires.0, c.requires.1, struct_reads (type_opened _ _ _ _ c.requires.2 c.form_of.ensures) c.requires.2 (struct_meant (c.in-OfType.is ∙ ap OfType c.in-Struct.is))))
 
 pub measure_type-overflow_sub-depth-in-Union : goal.measure_type-overflow_sub-depth-in-Union
 measure_type-overflow_sub-depth-in-Union t c = omega (arith, type_deep _ _ _ c.requires.2)
 
 pub measure_type-measure_group-requires-in-Union : goal.measure_type-measure_group-requires-in-Union
-measure_type-measure_group-requires-in-Union t c = (omega (arith, type_deep _ _ _ c.requires.2, c.decreases), (c.requires.0, c.requires.1, union_reads (type_opened _ _ _ _ c.requires.2 c.form_of-form.ensures) c.requires.2 (union_meant (c.in-OfType.is ∙ ap OfType c.in-Union.is))))
+measure_type-measure_group-requires-in-Union t c = (omega (arith, type_deep _ _ _ c.requires.2, c.decreases), (c.requires.0, c.requires.1, union_reads (type_opened _ _ _ _ c.requires.2 c.form_of.ensures) c.requires.2 (union_meant (c.in-OfType.is ∙ ap OfType c.in-Union.is))))
 
 pub measure_type-overflow_sub-depth-in-Enum : goal.measure_type-overflow_sub-depth-in-Enum
 measure_type-overflow_sub-depth-in-Enum t c = omega (arith, type_deep _ _ _ c.requires.2)
 
 pub measure_type-measure_enum-requires : goal.measure_type-measure_enum-requires
-measure_type-measure_enum-requires t c = (omega (arith, type_deep _ _ _ c.requires.2, c.decreases), (c.requires.0, c.requires.1, enum_reads (type_opened _ _ _ _ c.requires.2 c.form_of-form.ensures) c.requires.2 (enum_meant (c.in-OfType.is ∙ ap OfType c.in-Enum.is))))
+measure_type-measure_enum-requires t c = (omega (arith, type_deep _ _ _ c.requires.2, c.decreases), (c.requires.0, c.requires.1, enum_reads (type_opened _ _ _ _ c.requires.2 c.form_of.ensures) c.requires.2 (enum_meant (c.in-OfType.is ∙ ap OfType c.in-Enum.is))))
 
 pub measure_type-overflow_sub-depth-in-Array : goal.measure_type-overflow_sub-depth-in-Array
 measure_type-overflow_sub-depth-in-Array t c = omega (arith, type_deep _ _ _ c.requires.2)
 
 pub measure_type-measure_array-requires : goal.measure_type-measure_array-requires
-measure_type-measure_array-requires t c = (omega (arith, type_deep _ _ _ c.requires.2, c.decreases), (c.requires.0, c.requires.1, array_reads (type_opened _ _ _ _ c.requires.2 c.form_of-form.ensures) c.requires.2 (array_meant (c.in-OfType.is ∙ ap OfType c.in-Array.is))))
+measure_type-measure_array-requires t c = (omega (arith, type_deep _ _ _ c.requires.2, c.decreases), (c.requires.0, c.requires.1, array_reads (type_opened _ _ _ _ c.requires.2 c.form_of.ensures) c.requires.2 (array_meant (c.in-OfType.is ∙ ap OfType c.in-Array.is))))
 
 pub measure_type-overflow_sub-depth-in-SizeUnion : goal.measure_type-overflow_sub-depth-in-SizeUnion
 measure_type-overflow_sub-depth-in-SizeUnion t c = omega (arith, type_deep _ _ _ c.requires.2)
 
 pub measure_type-measure_group-requires-in-SizeUnion : goal.measure_type-measure_group-requires-in-SizeUnion
-measure_type-measure_group-requires-in-SizeUnion t c = (omega (arith, type_deep _ _ _ c.requires.2, c.decreases), (c.requires.0, c.requires.1, size_union_reads (type_opened _ _ _ _ c.requires.2 c.form_of-form.ensures) c.requires.2 (size_union_meant (c.in-OfType.is ∙ ap OfType c.in-SizeUnion.is))))
+measure_type-measure_group-requires-in-SizeUnion t c = (omega (arith, type_deep _ _ _ c.requires.2, c.decreases), (c.requires.0, c.requires.1, size_union_reads (type_opened _ _ _ _ c.requires.2 c.form_of.ensures) c.requires.2 (size_union_meant (c.in-OfType.is ∙ ap OfType c.in-SizeUnion.is))))
 
 pub measure_type-returns-in-Primitive : goal.measure_type-returns-in-Primitive
-measure_type-returns-in-Primitive t c = record { is = c.primitive.ensures.0 ∙ primitive_is _ (type_opened _ _ _ _ c.requires.2 c.form_of-form.ensures) c.requires.2 _ (primitive_meant (c.in-OfType.is ∙ ap OfType c.in-Primitive.is)); fits = c.primitive.ensures.1; ended = primitive_ended _ (type_opened _ _ _ _ c.requires.2 c.form_of-form.ensures) c.requires.2 (primitive_meant (c.in-OfType.is ∙ ap OfType c.in-Primitive.is)) }
+measure_type-returns-in-Primitive t c = record { is = c.primitive.ensures.0 ∙ primitive_is _ (type_opened _ _ _ _ c.requires.2 c.form_of.ensures) c.requires.2 _ (primitive_meant (c.in-OfType.is ∙ ap OfType c.in-Primitive.is)); fits = c.primitive.ensures.1; ended = primitive_ended _ (type_opened _ _ _ _ c.requires.2 c.form_of.ensures) c.requires.2 (primitive_meant (c.in-OfType.is ∙ ap OfType c.in-Primitive.is)) }
 
 pub measure_type-returns-in-TypeRef : goal.measure_type-returns-in-TypeRef
-measure_type-returns-in-TypeRef t c = record { is = c.measure_name.ensures.0 ∙ type_ref_is _ (type_opened _ _ _ _ c.requires.2 c.form_of-form.ensures) c.requires.2 _ (type_ref_meant (c.in-OfType.is ∙ ap OfType c.in-TypeRef.is)); fits = c.measure_name.ensures.1; ended = type_ref_ended _ (type_opened _ _ _ _ c.requires.2 c.form_of-form.ensures) c.requires.2 (type_ref_meant (c.in-OfType.is ∙ ap OfType c.in-TypeRef.is)) }
+measure_type-returns-in-TypeRef t c = record { is = c.measure_name.ensures.0 ∙ type_ref_is _ (type_opened _ _ _ _ c.requires.2 c.form_of.ensures) c.requires.2 _ (type_ref_meant (c.in-OfType.is ∙ ap OfType c.in-TypeRef.is)); fits = c.measure_name.ensures.1; ended = type_ref_ended _ (type_opened _ _ _ _ c.requires.2 c.form_of.ensures) c.requires.2 (type_ref_meant (c.in-OfType.is ∙ ap OfType c.in-TypeRef.is)) }
 
 pub measure_type-returns-in-Struct : goal.measure_type-returns-in-Struct
-measure_type-returns-in-Struct t c = is_same (struct_is _ (type_opened _ _ _ _ c.requires.2 c.form_of-form.ensures) c.requires.2 _ (struct_meant (c.in-OfType.is ∙ ap OfType c.in-Struct.is))) (sym (struct_ends (type_opened _ _ _ _ c.requires.2 c.form_of-form.ensures) (struct_meant (c.in-OfType.is ∙ ap OfType c.in-Struct.is)))) c.measure_group.ensures
+measure_type-returns-in-Struct t c = is_same (struct_is _ (type_opened _ _ _ _ c.requires.2 c.form_of.ensures) c.requires.2 _ (struct_meant (c.in-OfType.is ∙ ap OfType c.in-Struct.is))) (sym (struct_ends (type_opened _ _ _ _ c.requires.2 c.form_of.ensures) (struct_meant (c.in-OfType.is ∙ ap OfType c.in-Struct.is)))) c.measure_group.ensures
 
 pub measure_type-returns-in-Union : goal.measure_type-returns-in-Union
-measure_type-returns-in-Union t c = is_same (union_is _ (type_opened _ _ _ _ c.requires.2 c.form_of-form.ensures) c.requires.2 _ (union_meant (c.in-OfType.is ∙ ap OfType c.in-Union.is))) (sym (union_ends (type_opened _ _ _ _ c.requires.2 c.form_of-form.ensures) (union_meant (c.in-OfType.is ∙ ap OfType c.in-Union.is)))) c.measure_group-in-Union.ensures
+measure_type-returns-in-Union t c = is_same (union_is _ (type_opened _ _ _ _ c.requires.2 c.form_of.ensures) c.requires.2 _ (union_meant (c.in-OfType.is ∙ ap OfType c.in-Union.is))) (sym (union_ends (type_opened _ _ _ _ c.requires.2 c.form_of.ensures) (union_meant (c.in-OfType.is ∙ ap OfType c.in-Union.is)))) c.measure_group-in-Union.ensures
 
 pub measure_type-returns-in-Enum : goal.measure_type-returns-in-Enum
-measure_type-returns-in-Enum t c = is_same (enum_is _ (type_opened _ _ _ _ c.requires.2 c.form_of-form.ensures) c.requires.2 _ (enum_meant (c.in-OfType.is ∙ ap OfType c.in-Enum.is))) (sym (enum_ends (type_opened _ _ _ _ c.requires.2 c.form_of-form.ensures) (enum_meant (c.in-OfType.is ∙ ap OfType c.in-Enum.is)))) c.measure_enum.ensures
+measure_type-returns-in-Enum t c = is_same (enum_is _ (type_opened _ _ _ _ c.requires.2 c.form_of.ensures) c.requires.2 _ (enum_meant (c.in-OfType.is ∙ ap OfType c.in-Enum.is))) (sym (enum_ends (type_opened _ _ _ _ c.requires.2 c.form_of.ensures) (enum_meant (c.in-OfType.is ∙ ap OfType c.in-Enum.is)))) c.measure_enum.ensures
 
 pub measure_type-returns-in-Array : goal.measure_type-returns-in-Array
-measure_type-returns-in-Array t c = is_same (array_is _ (type_opened _ _ _ _ c.requires.2 c.form_of-form.ensures) c.requires.2 _ (array_meant (c.in-OfType.is ∙ ap OfType c.in-Array.is))) (sym (array_ends (type_opened _ _ _ _ c.requires.2 c.form_of-form.ensures) (array_meant (c.in-OfType.is ∙ ap OfType c.in-Array.is)))) c.measure_array.ensures
+measure_type-returns-in-Array t c = is_same (array_is _ (type_opened _ _ _ _ c.requires.2 c.form_of.ensures) c.requires.2 _ (array_meant (c.in-OfType.is ∙ ap OfType c.in-Array.is))) (sym (array_ends (type_opened _ _ _ _ c.requires.2 c.form_of.ensures) (array_meant (c.in-OfType.is ∙ ap OfType c.in-Array.is)))) c.measure_array.ensures
 
 pub measure_type-returns-in-SizeUnion : goal.measure_type-returns-in-SizeUnion
-measure_type-returns-in-SizeUnion t c = is_same (size_union_is _ (type_opened _ _ _ _ c.requires.2 c.form_of-form.ensures) c.requires.2 _ (size_union_meant (c.in-OfType.is ∙ ap OfType c.in-SizeUnion.is))) (sym (size_union_ends (type_opened _ _ _ _ c.requires.2 c.form_of-form.ensures) (size_union_meant (c.in-OfType.is ∙ ap OfType c.in-SizeUnion.is)))) c.measure_group-in-SizeUnion.ensures
+measure_type-returns-in-SizeUnion t c = is_same (size_union_is _ (type_opened _ _ _ _ c.requires.2 c.form_of.ensures) c.requires.2 _ (size_union_meant (c.in-OfType.is ∙ ap OfType c.in-SizeUnion.is))) (sym (size_union_ends (type_opened _ _ _ _ c.requires.2 c.form_of.ensures) (size_union_meant (c.in-OfType.is ∙ ap OfType c.in-SizeUnion.is)))) c.measure_group-in-SizeUnion.ensures

@@ -2,44 +2,55 @@
 use native.Mathlib.Omega.{arith}
 use Prim.Native.Nat.{◌+◌}
 use Rattle.notes.specs.Notes.{lists_at}
-use Rattle.forward.proofs.SeenReferences.{seen_from, seen_ends, seen_stop, stop_bound, stop_room, stop_found, stop_nothing, stop_forward, seen_put}
+use Rattle.forward.proofs.SeenReferences.{seen_from, seen_ends, seen_stop, seen_below, stop_bound, stop_found, stop_nothing, stop_forward, seen_put}
 use Rattle.forward.proofs.find_forward.Goals as goal
 
-pub overflow_cast-end : goal.overflow_cast-end
-overflow_cast-end c = let a = c in omega (arith, c.type_inv.places (lists_at + (a.args.i + 1)))
-
-pub find_later_field-stop-requires : goal.find_later_field-stop-requires
-find_later_field-stop-requires c = let a = c in (seen_ends (seen_from a.requires.3.references a.requires.2 _ a.requires.1 c.start_in-from.ensures), a.requires.3.references.within _ a.requires.1)
+pub find_later_field-found-requires : goal.find_later_field-found-requires
+find_later_field-found-requires c =
+    let p = c.requires in
+    (seen_ends (seen_from p.3.references p.2 _ p.1 c.start_in-from.ensures), p.3.references.within _ p.1)
 
 pub overflow_cast-seen : goal.overflow_cast-seen
-overflow_cast-seen c = let a = c in
-    let w = seen_stop (seen_from a.requires.3.references a.requires.2 _ a.requires.1 c.start_in-from.ensures) c.find_later_field-stop.ensures in
-    omega (arith, stop_bound w, c.type_inv.places (lists_at + (a.args.i + 1)))
+overflow_cast-seen c =
+    let p = c.requires in
+    let w = seen_stop (seen_from p.3.references p.2 _ p.1 c.start_in-from.ensures) c.find_later_field-found.ensures in
+    omega (arith, stop_bound w, c.unwrap_or.ensures, c.type_inv.places (lists_at + (c.args.i + 1)))
+
+pub returns-in_err-at : goal.returns-in_err-at
+returns-in_err-at c =
+    let p = c.requires in
+    let from = seen_from p.3.references p.2 _ p.1 c.start_in-from.ensures in
+    let w = seen_stop from c.find_later_field-found.ensures in
+    let none = seen_stop from c.in_err-at.ensures in
+    rw c.from_residual.ensures (
+      stop_forward p.0.table _ p.1 none (stop_nothing none (omega arith)),
+      rw c.unwrap_or.ensures (seen_put p.2 _ (omega (arith, p.0.table.placed.room, p.0.table.count, p.1)) w.seen),
+    )
 
 pub overflow_add-result : goal.overflow_add-result
-overflow_add-result c = let a = c in
-    let w = seen_stop (seen_from a.requires.3.references a.requires.2 _ a.requires.1 c.start_in-from.ensures) c.find_later_field-stop.ensures in
-    omega (arith, stop_room w c.if-stop-end.true, c.type_inv.places (lists_at + (a.args.i + 1)))
+overflow_add-result c =
+    let p = c.requires in
+    let l = seen_below (seen_from p.3.references p.2 _ p.1 c.start_in-from.ensures) c.in_ok-at.ensures in
+    omega (arith, l, c.type_inv.places (lists_at + (c.args.i + 1)))
 
-pub offset_bounds-places-stop : goal.offset_bounds-places-stop
-offset_bounds-places-stop c = let a = c in
-    let w = seen_stop (seen_from a.requires.3.references a.requires.2 _ a.requires.1 c.start_in-from.ensures) c.find_later_field-stop.ensures in
-    omega (arith, stop_room w c.if-stop-end.true, c.type_inv.places (lists_at + (a.args.i + 1)))
+pub offset_bounds-places-at : goal.offset_bounds-places-at
+offset_bounds-places-at c =
+    let p = c.requires in
+    let l = seen_below (seen_from p.3.references p.2 _ p.1 c.start_in-from.ensures) c.in_ok-at.ensures in
+    omega (arith, l, c.type_inv.places (lists_at + (c.args.i + 1)))
 
-pub bounds-places-stop : goal.bounds-places-stop
-bounds-places-stop c = let a = c in
-    let w = seen_stop (seen_from a.requires.3.references a.requires.2 _ a.requires.1 c.start_in-from.ensures) c.find_later_field-stop.ensures in
-    omega (arith, stop_room w c.if-stop-end.true, a.requires.3.references.within _ a.requires.1)
-
-pub overflow_cast-result : goal.overflow_cast-result
-overflow_cast-result c = record { fits = omega (arith, c.type_inv.places (c.find_later_field-stop.result + 2)) }
-
-pub returns-then-stop-end : goal.returns-then-stop-end
-returns-then-stop-end c = let a = c in
-    let w = seen_stop (seen_from a.requires.3.references a.requires.2 _ a.requires.1 c.start_in-from.ensures) c.find_later_field-stop.ensures in
-    (stop_forward a.requires.0.table _ a.requires.1 w (stop_found w c.if-stop-end.true), seen_put a.requires.2 _ (omega (arith, a.requires.0.table.placed.room, a.requires.0.table.count, a.requires.1)) w.seen)
+pub bounds-places-at : goal.bounds-places-at
+bounds-places-at c =
+    let p = c.requires in
+    let l = seen_below (seen_from p.3.references p.2 _ p.1 c.start_in-from.ensures) c.in_ok-at.ensures in
+    omega (arith, l, p.3.references.within _ p.1)
 
 pub returns : goal.returns
-returns c = let a = c in
-    let w = seen_stop (seen_from a.requires.3.references a.requires.2 _ a.requires.1 c.start_in-from.ensures) c.find_later_field-stop.ensures in
-    (stop_forward a.requires.0.table _ a.requires.1 w (stop_nothing w (omega arith)), seen_put a.requires.2 _ (omega (arith, a.requires.0.table.placed.room, a.requires.0.table.count, a.requires.1)) w.seen)
+returns c =
+    let p = c.requires in
+    let from = seen_from p.3.references p.2 _ p.1 c.start_in-from.ensures in
+    let w = seen_stop from c.find_later_field-found.ensures in
+    let one = seen_stop from c.in_ok-at.ensures in (
+      stop_forward p.0.table _ p.1 one (stop_found one (omega (arith, seen_below from c.in_ok-at.ensures))),
+      rw c.unwrap_or.ensures (seen_put p.2 _ (omega (arith, p.0.table.placed.room, p.0.table.count, p.1)) w.seen),
+    )

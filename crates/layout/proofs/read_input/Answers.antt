@@ -1,17 +1,21 @@
--- What a turn read stands behind what was read before it.
-use Rattle.std.proofs.Common.{◌≡◌, ℕ, ◌+◌, List, ◌++◌, take, drop, arith, ap, sym, subst, ◌∙◌}
+-- What a read gave stands behind what was read before it.
+use Rattle.std.proofs.Common.{◌≡◌, ℕ, ◌+◌, ◌≤◌, List, ◌++◌, length, take, drop, arith, ap, ap₂, sym, subst, ◌∙◌, length-take-le}
 use Rattle.std.proofs.KnownBytes.{Consumes-trans}
 use Rattle.std.specs.Io.KnownBytes.{Consumes}
-use lib.Seq.{take-add}
+use lib.Seq.{take-add, take-append-le, drop-append_seam}
+use borrow.Rule.Slice.PartMut.{put_mid, post_of, take_put}
 use Rattle.layout.proofs.read_input.Goals as goal
 
-front_grows : (done n : ℕ) (old new : List ℕ) → take done new ≡ take done old → take done old ++ take n (drop done new) ≡ take (done + n) new
-front_grows done n old new front = ap (λ l. l ++ take n (drop done new)) (sym front) ∙ sym (take-add done n new)
+front_grows : (done n k : ℕ) (old new : List ℕ) → done ≤ length old → n ≤ length new → take done old ++ take n new ≡ take (done + n) (put_mid done k old new)
+front_grows done n k old new h m =
+    let behind : drop done (put_mid done k old new) ≡ new ++ post_of done k old =
+    subst (λ j. drop j (put_mid done k old new) ≡ new ++ post_of done k old) (length-take-le done old h) (drop-append_seam (take done old) (new ++ post_of done k old)) in
+    sym (take-add done n (put_mid done k old new) ∙ ap₂ (λ xs ys. xs ++ ys) (take_put done k old new h) (ap (take n) behind ∙ take-append-le n new (post_of done k old) m))
 
 pub loop-done-preserved : goal.loop-done-preserved
 loop-done-preserved g c =
-    let turn = c.in-More.ensures in
+    let gave = c.in-Ok.ensures in
     record {
-      within = omega arith;
-      reads = subst (Consumes _ _) (front_grows c.loop-done.done c.in-More.n c.loop-done.buf c.read_more-turn.new.buf turn.front) (Consumes-trans _ _ _ _ _ c.loop-done.invariant.reads turn.reads);
+      within = omega (arith, c.read.auto);
+      reads = subst (Consumes _ _) (front_grows c.loop-done.done c.in-Ok.n _ c.loop-done.buf c.read.new.buf c.loop-done.invariant.within gave.bound.0) (Consumes-trans _ _ _ _ _ c.loop-done.invariant.reads gave.bytes.0);
     }

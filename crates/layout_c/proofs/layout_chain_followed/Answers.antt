@@ -1,5 +1,8 @@
-use Rattle.layout_c.proofs.CallLaws.{followed_in_c}
+use Rattle.layout_c.proofs.CallLaws.{chain_given, chain_not_given}
 use Rattle.layout_c.proofs.layout_chain_followed.Goals as goal
 
-pub returns : goal.returns
-returns c = followed_in_c c.find_layout_dependency_chain-listing.ensures c.chain_answer-answer.ensures c.length_out.ensures c.code.ensures c.followed_out.ensures
+pub returns-in-Ok : goal.returns-in-Ok
+returns-in-Ok c = chain_given c.in-Ok.ensures
+
+pub returns-in-Err : goal.returns-in-Err
+returns-in-Err c = chain_not_given c.in-Err.ensures c.from.ensures

@@ -1,5 +1,8 @@
-use Rattle.layout_c.proofs.CallLaws.{fixed_in_c}
+use Rattle.layout_c.proofs.CallLaws.{fixed_given, fixed_not_given}
 use Rattle.layout_c.proofs.layout_fixed_size.Goals as goal
 
-pub returns : goal.returns
-returns c = fixed_in_c c.fixed_size-answer.ensures _ _ _ c.offsets_out.ensures c.fixed_code.ensures c.size_out.ensures c.alignment_out.ensures
+pub returns-in-Ok : goal.returns-in-Ok
+returns-in-Ok c = fixed_given c.in-Ok.ensures
+
+pub returns-in-Err : goal.returns-in-Err
+returns-in-Err c = fixed_not_given c.in-Err.ensures c.from.ensures

@@ -1,19 +1,13 @@
 -- `offsets::fixed_size` meets its contract: what the bytes are refused for, or what is due to the bundle that they are.
-use Prim.Native.Nat.{ℕ}
-use native.Mathlib.Omega.{arith}
-use lib.ListN.{length-replicate}
-use Rattle.bundle.proofs.AnswerLaws.{opened_layout, opened_refused}
+use Rattle.refusal.proofs.NumberLaws.{handed_on}
 use Rattle.offsets.proofs.PlacingLaws.{opened_call, refused_call}
 use Rattle.offsets.proofs.fixed_size.Goals as goal
 
-pub open-opening-requires : goal.open-opening-requires
-open-opening-requires c = omega (arith, length-replicate {A = ℕ} 2050 0)
+pub returns-in_err-layout : goal.returns-in_err-layout
+returns-in_err-layout c = rw (handed_on _ c.from_residual.ensures.1) (refused_call _ _ _ _ c.in_err-layout.ensures)
 
 pub fixed_opened-requires : goal.fixed_opened-requires
-fixed_opened-requires c = (let o = (opened_layout _ _ _ _ c.open-opening.ensures c.in-Opened.is) in (o.0.table, o.1))
+fixed_opened-requires c = (c.in_ok-layout.ensures.0.table, c.in_ok-layout.ensures.1)
 
-pub returns-in-Opened : goal.returns-in-Opened
-returns-in-Opened c = opened_call (opened_layout _ _ _ _ c.open-opening.ensures c.in-Opened.is) c.fixed_opened.ensures
-
-pub returns-in-Refused : goal.returns-in-Refused
-returns-in-Refused c = refused_call _ _ _ _ (opened_refused _ _ _ _ c.open-opening.ensures c.in-Refused.is)
+pub returns : goal.returns
+returns c = opened_call c.in_ok-layout.ensures c.fixed_opened.ensures

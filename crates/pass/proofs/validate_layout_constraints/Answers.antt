@@ -10,9 +10,6 @@ loop-i-init c = defining_start _ _ _ _ c.requires.layout_of.1 c.requires.acyclic
 pub validate_type-reached-requires : goal.validate_type-reached-requires
 validate_type-reached-requires c = record { edges_prepared = (c.requires.edges_prepared.0, omega (arith, c.requires.edges_prepared.1, c.loop-i.invariant.list_size)); layout_of = (c.requires.layout_of.0, c.loop-i-test.true, defining_room c.requires.layout_of.0.table c.loop-i.invariant c.loop-i-test.true, c.requires.layout_of.2); acyclic = (c.requires.acyclic.0, c.loop-i.invariant.keeps, c.loop-i.invariant.nests) }
 
-pub overflow_add-i : goal.overflow_add-i
-overflow_add-i c = record { fits = omega (arith, c.loop-i-test.true, c.requires.layout_of.0.table.count, c.requires.layout_of.0.table.placed.room) }
-
 pub loop-i-preserved : goal.loop-i-preserved
 loop-i-preserved c = defining_next c.requires.layout_of.0.table c.loop-i.invariant c.loop-i-test.true c.validate_type-reached.auto.work c.validate_type-reached.ensures.0 c.validate_type-reached.ensures.1 c.validate_type-reached.ensures.2
 

@@ -6,7 +6,3 @@ use Rattle.pass.proofs.validate_layout_constraints.Given as goal
 abbrev pub invariant-loop-i : goal.invariant-loop-i
 invariant-loop-i l =
     Defining l.s l.initial.work l.initial.out l.initial.reached l.kept l.nested l.work l.out l.i l.reached
-
-abbrev pub decreases-loop-i : goal.decreases-loop-i
-decreases-loop-i l =
-    l.count - l.i

@@ -1,10 +1,7 @@
 -- `renumber::scan` meets its contract: `Scan` holds after each item.
-use Prim.Native.Nat.{◌-◌}
 use native.Mathlib.Omega.{arith}
-use mathlib.Core.Path.{◌≡◌, refl, sym, ◌∙◌}
-use lib.ListN.{length}
-use Rattle.meaning.specs.Kinds.{parts}
-use Rattle.renumber.proofs.ScanLaws.{Scan, scan_start, scan_length, scan_members, scan_byte, scan_there, scan_name, scan_end}
+use mathlib.Core.Path.{refl, sym, ◌∙◌}
+use Rattle.renumber.proofs.ScanLaws.{scan_start, scan_length, scan_members, scan_byte, scan_there, scan_name, scan_end}
 use Rattle.renumber.proofs.scan.Goals as goal
 
 pub enter-requires : goal.enter-requires

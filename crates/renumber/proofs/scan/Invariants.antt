@@ -1,9 +1,8 @@
 use Prim.Native.Nat.{◌-◌}
-use native.Mathlib.Omega.{arith}
-use mathlib.Core.Path.{◌≡◌, refl, sym, ◌∙◌}
+use mathlib.Core.Path.{◌≡◌}
 use lib.ListN.{length}
 use Rattle.meaning.specs.Kinds.{parts}
-use Rattle.renumber.proofs.ScanLaws.{Scan, scan_start, scan_length, scan_members, scan_byte, scan_there, scan_name, scan_end}
+use Rattle.renumber.proofs.ScanLaws.{Scan}
 use Rattle.renumber.proofs.scan.Given as goal
 
 abbrev pub invariant-loop-at : goal.invariant-loop-at

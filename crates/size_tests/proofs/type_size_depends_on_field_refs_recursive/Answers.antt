@@ -1,4 +1,3 @@
-use Rattle.size_tests.proofs.type_size_depends_on_field_refs_recursive.Statement.{statement}
 use mathlib.Core.Path.{◌∙◌}
 use Rattle.size_tests.proofs.TestLaws.{size_inline}
 use Rattle.size_tests.proofs.type_size_depends_on_field_refs_recursive.Goals as goal

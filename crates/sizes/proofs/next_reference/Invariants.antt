@@ -1,7 +1,6 @@
 use Prim.Native.Nat.{◌-◌}
-use mathlib.Core.Path.{◌≡◌, refl, sym, ap, ◌∙◌}
-use Rattle.sizes.specs.Scan.{references_from, found_of}
-use Rattle.sizes.proofs.NamesLaws.{step_found, step_other, step_none, step_less}
+use mathlib.Core.Path.{◌≡◌}
+use Rattle.sizes.specs.Scan.{references_from}
 use Rattle.sizes.proofs.next_reference.Given as goal
 
 abbrev pub invariant-loop-next : goal.invariant-loop-next

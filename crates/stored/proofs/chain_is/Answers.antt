@@ -1,22 +1,22 @@
 -- `stored::chain_is` meets its contract: the count and the names behind it.
-use borrow.Author.Tests.{not-true, not-false}
 use native.Mathlib.Omega.{arith}
-use Rattle.stored.proofs.Standing.{told_true, told_false}
-use Rattle.stored.proofs.Numbers.{due_stands, chain_count}
-use Rattle.stored.proofs.Answers.{chain_length, chain_whether}
+use mathlib.Core.Path.{◌∙◌}
+use Rattle.std.specs.Prelude.{Some, None}
+use Rattle.std.proofs.lemmas.Bool.Decides.{Decides-eqb}
+use Rattle.std.proofs.lemmas.Slice.Eq.{strip_prefix_is}
+use Rattle.stored.specs.Stored.{chain_bytes}
+use Rattle.stored.proofs.Parts.{part_not, part_whether, number_low, plain_numbers}
 use Rattle.stored.proofs.chain_is.Goals as goal
 
-pub returns-then-m-lt8 : goal.returns-then-m-lt8
-returns-then-m-lt8 c = λ p. omega (arith, chain_length c.args.followed _ c.args.count _ c.args.m p)
-
-pub returns-then-m-ne0 : goal.returns-then-m-ne0
-returns-then-m-ne0 c = λ p. c.if-m-ne0.true (omega (arith, chain_length c.args.followed _ c.args.count _ c.args.m p))
-
-pub returns-then-m-count : goal.returns-then-m-count
-returns-then-m-count c = λ p. c.if-m-count.true (omega (arith, chain_length c.args.followed _ c.args.count _ c.args.m p))
-
-pub returns-then-not-number_is : goal.returns-then-not-number_is
-returns-then-not-number_is c = λ p. told_false c.number_is.result _ c.if-not-number_is.true c.number_is.ensures (chain_count _ _ _ (due_stands _ _ _ p.1))
+pub returns-in_default : goal.returns-in_default
+unfolding chain_bytes
+returns-in_default c =
+    part_not c.args.due.now c.to_le_bytes.result _ _ (c.to_le_bytes.ensures ∙ number_low 8 c.args.followed (omega arith))
+    (strip_prefix_is Decides-eqb _ _ None c.in_default.ensures.cases)
 
 pub returns : goal.returns
-returns c = chain_whether c.args.followed c.args.list.now c.args.count c.args.due.now c.args.m c.names_are.result (omega arith) (told_true c.number_is.result _ c.if-not-number_is.false c.number_is.ensures) c.names_are.ensures
+unfolding chain_bytes
+returns c =
+    part_whether c.numbers_are.result c.args.due.now c.to_le_bytes.result c.in-Some.rest.now _ _ (c.to_le_bytes.ensures ∙ number_low 8 c.args.followed (omega arith))
+    (strip_prefix_is Decides-eqb _ _ (Some c.in-Some.rest) c.in-Some.ensures.cases)
+    (plain_numbers _ 2 _ _ c.numbers_are.ensures)

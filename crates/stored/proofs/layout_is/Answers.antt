@@ -1,25 +1,34 @@
 -- `stored::layout_is` meets its contract: size, alignment and offsets one after another.
-use borrow.Author.Tests.{not-true, not-false}
 use native.Mathlib.Omega.{arith}
-use Rattle.stored.proofs.Standing.{told_true, told_false}
-use Rattle.stored.proofs.Numbers.{due_stands, layout_size, layout_alignment}
-use Rattle.stored.proofs.Answers.{layout_length, layout_whether}
+use mathlib.Core.Path.{◌∙◌}
+use mathlib.Core.Bool.{false}
+use Rattle.std.specs.Prelude.{Some, None}
+use Rattle.std.proofs.lemmas.Bool.Decides.{Decides-eqb}
+use Rattle.std.proofs.lemmas.Slice.Eq.{strip_prefix_is}
+use Rattle.stored.proofs.Parts.{part_not, part_whether, number_low, plain_numbers, layout_parts}
 use Rattle.stored.proofs.layout_is.Goals as goal
 
-pub returns-then-m-lt16 : goal.returns-then-m-lt16
-returns-then-m-lt16 c = λ p. omega (arith, layout_length c.args.size c.args.alignment _ c.args.count _ c.args.m p)
+pub returns-in_default : goal.returns-in_default
+returns-in_default c =
+    let e = layout_parts c.args.size c.args.alignment c.args.offsets.now in
+    let f = c.to_le_bytes.ensures ∙ number_low 8 c.args.size (omega arith) in
+    λ d. part_not c.args.due.now c.to_le_bytes.result _ _ f (strip_prefix_is Decides-eqb _ _ None c.in_default.ensures.cases) (d ∙ e)
 
-pub returns-then-m-ne0 : goal.returns-then-m-ne0
-returns-then-m-ne0 c = λ p. c.if-m-ne0.true (omega (arith, layout_length c.args.size c.args.alignment _ c.args.count _ c.args.m p))
-
-pub returns-then-m-count : goal.returns-then-m-count
-returns-then-m-count c = λ p. c.if-m-count.true (omega (arith, layout_length c.args.size c.args.alignment _ c.args.count _ c.args.m p))
-
-pub returns-then-not-number_is : goal.returns-then-not-number_is
-returns-then-not-number_is c = λ p. told_false c.number_is.result _ c.if-not-number_is.true c.number_is.ensures (layout_size _ _ _ _ (due_stands _ _ _ p.1))
-
-pub returns-then-not-number_is-2 : goal.returns-then-not-number_is-2
-returns-then-not-number_is-2 c = λ p. told_false c.number_is-2.result _ c.if-not-number_is-2.true c.number_is-2.ensures (layout_alignment _ _ _ _ (due_stands _ _ _ p.1))
+pub returns-in_default-strip_prefix : goal.returns-in_default-strip_prefix
+returns-in_default-strip_prefix c =
+    let e = layout_parts c.args.size c.args.alignment c.args.offsets.now in
+    let f = c.to_le_bytes.ensures ∙ number_low 8 c.args.size (omega arith) in
+    let g = c.to_le_bytes-2.ensures ∙ number_low 8 c.args.alignment (omega arith) in
+    let n = part_not c.in-Some.rest.now c.to_le_bytes-2.result _ _ g (strip_prefix_is Decides-eqb _ _ None c.in_default-strip_prefix.ensures.cases) in
+    λ d. part_whether false c.args.due.now c.to_le_bytes.result c.in-Some.rest.now _ _ f (strip_prefix_is Decides-eqb _ _ (Some c.in-Some.rest) c.in-Some.ensures.cases) n (d ∙ e)
 
 pub returns : goal.returns
-returns c = layout_whether c.args.size c.args.alignment c.args.list.now c.args.count c.args.due.now c.args.m c.offsets_are.result (omega arith) (told_true c.number_is.result _ c.if-not-number_is.false c.number_is.ensures) (told_true c.number_is-2.result _ c.if-not-number_is-2.false c.number_is-2.ensures) c.offsets_are.ensures
+returns c =
+    let e = layout_parts c.args.size c.args.alignment c.args.offsets.now in
+    let f = c.to_le_bytes.ensures ∙ number_low 8 c.args.size (omega arith) in
+    let g = c.to_le_bytes-2.ensures ∙ number_low 8 c.args.alignment (omega arith) in
+    let n = plain_numbers _ 4 _ _ c.numbers_are.ensures in
+    let r = c.numbers_are.result in
+    rw e
+    (part_whether r c.args.due.now c.to_le_bytes.result c.in-Some.rest.now _ _ f (strip_prefix_is Decides-eqb _ _ (Some c.in-Some.rest) c.in-Some.ensures.cases)
+    (part_whether r c.in-Some.rest.now c.to_le_bytes-2.result c.in-Some-strip_prefix.rest.now _ _ g (strip_prefix_is Decides-eqb _ _ (Some c.in-Some-strip_prefix.rest) c.in-Some-strip_prefix.ensures.cases) n))

@@ -1,7 +1,5 @@
-use Prim.Native.Nat.{◌+◌, ◌-◌, ◌*◌, ◌%◌}
-use mathlib.Core.Path.{refl}
-use native.Mathlib.Omega.{arith}
-use Rattle.tree.proofs.Searching.{Searching, searching_start, link_later, searching_next, searching_unfound}
+use Prim.Native.Nat.{◌-◌}
+use Rattle.tree.proofs.Searching.{Searching}
 use Rattle.tree.proofs.search.Given as goal
 
 abbrev pub invariant-loop-k : goal.invariant-loop-k

@@ -1,22 +1,24 @@
 use native.Mathlib.Omega.{arith}
+use mathlib.Core.Path.{sym}
 use lib.ListN.{length}
-use Rattle.validate.proofs.Writing.{put_none, put_room, put_some}
+use lib.Seq.{length-take-le}
+use Rattle.validate.proofs.Writing.{put_fine, put_some, fits_found}
 use Rattle.validate.proofs.put_check.Goals as goal
 
-pub record_of-found-requires : goal.record_of-found-requires
-record_of-found-requires c = (length c.args.list.now, c.requires.i_lt_definition_limit.1)
+pub returns-in_default : goal.returns-in_default
+returns-in_default c = put_fine _ _ _ _ _ c.in_default.not-Some _ _
 
-pub returns-then-found-eq0 : goal.returns-then-found-eq0
-returns-then-found-eq0 c = put_none c.record_of-found.ensures _ _ _ c.if-found-eq0.true _ _
+pub record_of-n-requires : goal.record_of-n-requires
+record_of-n-requires c = (length c.args.list.now, fits_found _ _ c.in-Some.is c.requires.i_lt_definition_limit.1)
 
 pub overflow_cast-i : goal.overflow_cast-i
 overflow_cast-i c = record { fits = omega (arith, c.requires.i_lt_definition_limit.0) }
 
-pub put_violation-at-requires : goal.put_violation-at-requires
-put_violation-at-requires c = let q = c.record_of-found.ensures.room _ c.requires.i_lt_definition_limit.1 in record { length_le_longest = (q.0, q.1, c.record_of-found.ensures.kind); length_bound = put_room c.record_of-found.ensures _ _ _ c.if-found-eq0.false c.requires.i_lt_definition_limit.1 c.requires.room }
-
-pub overflow_add-result : goal.overflow_add-result
-overflow_add-result c = omega (arith, c.requires.room.few)
+pub slice_bounds-put_violation-end : goal.slice_bounds-put_violation-end
+slice_bounds-put_violation-end c = sym (length-take-le _ _ (c.record_of-n.ensures.room _ (fits_found _ _ c.in-Some.is c.requires.i_lt_definition_limit.1)).1)
 
 pub returns : goal.returns
-returns c = put_some c.record_of-found.ensures _ _ _ c.if-found-eq0.false c.requires.i_lt_definition_limit.1 (c.put_violation-at.ensures c.record_of-found.ensures.names c.record_of-found.ensures.few c.record_of-found.ensures.path)
+returns c =
+    let f = fits_found _ _ c.in-Some.is c.requires.i_lt_definition_limit.1 in
+    let r = c.record_of-n.ensures in
+    rw c.in-Some.is (put_some r _ _ _ f (c.put_violation-at.ensures r.names r.few r.path))

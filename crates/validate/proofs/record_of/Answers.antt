@@ -1,4 +1,4 @@
-use Rattle.validate.proofs.Writing.{fit_enum, fit_array, fit_field, recorded_fine, recorded_enum, recorded_enum_cycle, recorded_array_cycle, recorded_field, recorded_element, recorded_reference, recorded_inline, recorded_nested}
+use Rattle.validate.proofs.Writing.{fit_enum, fit_array, fit_field, recorded_enum, recorded_enum_cycle, recorded_array_cycle, recorded_field, recorded_element, recorded_reference, recorded_inline, recorded_nested}
 use Rattle.validate.proofs.record_of.Goals as goal
 
 pub written-requires : goal.written-requires
@@ -10,11 +10,8 @@ written-requires-in-ArrayCycle c = fit_array _ _ c.requires.1 c.in-ArrayCycle.is
 pub written-requires-in-FieldForward : goal.written-requires-in-FieldForward
 written-requires-in-FieldForward c = fit_field _ _ c.requires.1 c.in-FieldForward.is
 
-pub returns-in-Fine : goal.returns-in-Fine
-returns-in-Fine c = recorded_fine _ c.in-Fine.is c.unwritten.ensures
-
 pub returns-in-EnumForward : goal.returns-in-EnumForward
-returns-in-EnumForward c = recorded_enum _ c.in-EnumForward.is c.unwritten-in-EnumForward.ensures
+returns-in-EnumForward c = recorded_enum _ c.in-EnumForward.is c.unwritten.ensures
 
 pub returns-in-EnumCycle : goal.returns-in-EnumCycle
 returns-in-EnumCycle c = recorded_enum_cycle _ c.in-EnumCycle.is c.written.ensures.0 c.written.ensures.1

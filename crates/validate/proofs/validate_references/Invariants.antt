@@ -1,20 +1,11 @@
-use borrow.Author.Tests.{lt-ltb}
-use Prim.Native.Nat.{◌+◌, ◌-◌, ◌*◌}
-use native.Mathlib.Omega.{arith}
+use Prim.Native.Nat.{◌-◌}
 use mathlib.Core.Bool.{false}
-use mathlib.Core.Path.{refl, ◌∙◌}
-use lib.ListN.{length-set}
 use Rattle.bundle.specs.Definitions.{bundle_of}
-use Rattle.sizes.proofs.ScanLaws.{nothing_left}
 use Rattle.sizes.specs.Tests.{Kept}
 use Rattle.search.specs.Work.{Lent}
-use Rattle.search.proofs.Lists.{lent_anew}
-use Rattle.search.proofs.Wanted.{wanted_part}
 use Rattle.containers.specs.Containers.{Known}
-use Rattle.containers.proofs.Keeping.{known_start}
-use Rattle.checks.proofs.ForwardChecks.{reference_is, reference_no}
 use Rattle.validate.specs.Validating.{check_reference}
-use Rattle.validate.proofs.Writing.{put_fine, falls, meant_fits, meant_room, meant_wrote, Referencing, referencing_start, referencing_room, referencing_next, referencing_end}
+use Rattle.validate.proofs.Writing.{Referencing}
 use Rattle.validate.proofs.validate_references.Given as goal
 
 abbrev pub invariant-loop-next : goal.invariant-loop-next

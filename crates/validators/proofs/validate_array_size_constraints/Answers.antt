@@ -8,7 +8,8 @@ use lib.ListN.{length, take, drop}
 use Rattle.meaning.specs.Violations.{Violation}
 use Rattle.chain.proofs.Parts.{whole_part}
 use Rattle.search.proofs.Lists.{list_room, list_back}
-use Rattle.checks.specs.declared.Check.{Check}
+use Rattle.std.specs.Prelude as prelude
+use Rattle.checks.specs.declared.Finding.{Finding}
 use Rattle.checks.specs.Checks.{Checked}
 use Rattle.validate.proofs.Validators.{references_inside, size_reads, element_reads, array_violations, front_room, rest_room, rest_wrote}
 use Rattle.validators.proofs.validate_array_size_constraints.Goals as goal
@@ -18,7 +19,7 @@ abbrev after : ℕ → List ℕ → List ℕ → List ℕ
 after count work ys = take (6 * count + 3) work ++ (ys ++ drop (length work - (6 * count + 3)) (drop (6 * count + 3) work))
 
 -- what was checked stands in the list as it is lent again
-again : {s : List ℕ} {n : ℕ} {r : Check} {o : ℕ → Option Violation} (count : ℕ) (work : List ℕ) → 7 * count + 7 ≤ length work → (ys : List ℕ)
+again : {s : List ℕ} {n : ℕ} {r : prelude.Option Finding} {o : ℕ → Option Violation} (count : ℕ) (work : List ℕ) → 7 * count + 7 ≤ length work → (ys : List ℕ)
     → length ys ≡ length (take (length work - (6 * count + 3)) (drop (6 * count + 3) work)) → Checked s n ys r o
     → Checked s n (take (length (after count work ys) - (6 * count + 3)) (drop (6 * count + 3) (after count work ys))) r o
 again {s} {n} {r} {o} count work room ys e c =

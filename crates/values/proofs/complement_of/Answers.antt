@@ -1,12 +1,12 @@
-use mathlib.Core.Path.{◌∙◌}
-use Rattle.values.proofs.Literals.{before_limit, twice_limit, after_limit}
+use mathlib.Core.Path.{ap, ◌∙◌}
+use Rattle.fixed_meaning.specs.Value.{ranged}
+use Rattle.values.specs.Meant.{value_meant}
+use Rattle.values.proofs.Arithmetic.{in_range}
+use Rattle.values.proofs.Literals.{before_limit, from_limit}
 use Rattle.values.proofs.complement_of.Goals as goal
 
 pub returns-then-n-limit : goal.returns-then-n-limit
-returns-then-n-limit c = c.plus.ensures ∙ before_limit _ _ c.if-n-limit.true
-
-pub returns-then-limit-over : goal.returns-then-limit-over
-returns-then-limit-over c = c.plus-then-limit-over.ensures ∙ twice_limit _ _ c.if-n-limit.false c.if-limit-over.true
+returns-then-n-limit c = c.plus.ensures ∙ before_limit c.args.least c.ranges.least _ _ c.unsigned_abs-limit.ensures.value c.if-n-limit.true
 
 pub returns : goal.returns
-returns c = c.minus.ensures ∙ after_limit _ _ c.if-n-limit.false c.if-limit-over.false
+returns c = ap value_meant c.ok_or.ensures.value ∙ in_range _ _ c.checked_add_unsigned.ensures ∙ ap ranged (from_limit c.args.least c.ranges.least _ _ c.unsigned_abs-limit.ensures.value c.requires c.if-n-limit.false)

@@ -1,9 +1,7 @@
-use Rattle.values.proofs.Literals.{plus_over, plus_is}
-use native.Mathlib.Omega.{arith}
+use mathlib.Core.Path.{ap, ◌∙◌}
+use Rattle.values.specs.Meant.{value_meant}
+use Rattle.values.proofs.Arithmetic.{converted}
 use Rattle.values.proofs.plus.Goals as goal
 
-pub returns-then-n-gt9223372036854775807 : goal.returns-then-n-gt9223372036854775807
-returns-then-n-gt9223372036854775807 c = plus_over _ c.if-n-gt9223372036854775807.true
-
 pub returns : goal.returns
-returns c = plus_is c.args.n (omega (arith, c.if-n-gt9223372036854775807.false))
+returns c = ap value_meant c.or.ensures ∙ converted _ _ c.try_from.ensures

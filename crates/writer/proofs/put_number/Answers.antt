@@ -1,16 +1,11 @@
--- `writer::put_number` meets its contract: the invariant is that of `Numbers`.
+-- `writer::put_number` meets its contract: the bytes that are copied are those of the number.
 use native.Mathlib.Omega.{arith}
-use Rattle.writer.proofs.Numbers.{Putting, putting_start, putting_next, putting_end}
+use mathlib.Core.Path.{ap, ◌∙◌}
+use lib.ListN.{take}
+use Rattle.writer.proofs.Numbers.{number_put}
 use Rattle.writer.proofs.put_number.Goals as goal
 
-pub loop-left-init : goal.loop-left-init
-loop-left-init c = putting_start _ _ _ _ c.requires
-
-pub loop-left-preserved : goal.loop-left-preserved
-loop-left-preserved c = putting_next c.loop-left.invariant c.loop-left-test.true
-
-pub shape_of-out : goal.shape_of-out
-shape_of-out c = c.loop-left.invariant.size
-
 pub returns : goal.returns
-returns c = putting_end c.loop-left.invariant (omega arith)
+returns c =
+    number_put c.args.out.now _ c.args.at c.args.width _ c.args.value c.requires.0 c.requires.1 (omega arith)
+    (c.copy_from_slice.ensures.after ∙ ap (take _) c.to_le_bytes.ensures)

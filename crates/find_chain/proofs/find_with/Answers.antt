@@ -1,6 +1,0 @@
--- `find_chain::find_with` meets its contract: what is found over prepared edges is found over those in the bytes.
-use Rattle.find_chain.proofs.Answering.{lists_prepared}
-use Rattle.find_chain.proofs.find_with.Goals as goal
-
-pub returns : goal.returns
-returns c = lists_prepared c.prepare.ensures _ _ c.find.ensures
