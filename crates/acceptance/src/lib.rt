@@ -2,28 +2,26 @@
 #![tactic(auto)]
 
 ghost use Rattle.std.specs.Prelude.{◌≡◌, ◌+◌, ◌≤◌, ◌<◌, length, ◌∷◌, [], Ok};
-ghost use Rattle.meaning.specs.Kinds.{form_of};
 ghost use Rattle.meaning.specs.ReadBundle.{read_edge, read_header, read_edges};
 ghost use Rattle.meaning.specs.Reader.{many};
 ghost use Rattle.meaning.specs.Circle.{circles};
 ghost use Rattle.meaning.specs.Calls.{acceptance, answer_of};
-ghost use Rattle.bundle.specs.View.{form_meant, step_of};
+ghost use Rattle.bundle.specs.View.{step_of};
 ghost use Rattle.records.specs.Header.{counts_of};
 ghost use Rattle.bundle.specs.Definitions.{bundle_of, places_end, DefinitionsAt, Places, Table};
 ghost use Rattle.acceptance.specs.Circles.{Marks, Decided};
 ghost use Rattle.bundle.specs.Opened.{IsRead, IsOpened, answer_meant};
 
-use bundle::{Form, Layout};
+use bundle::{Definitions, Layout, RecordForm};
 use records::Header;
 use refusal::Refusal;
 use scan::Walk;
 
-// The end of the edge at `at`, where `form` is an edge's.
-fn edge_at(s: &[u8], at: usize, form: Form) -> Result<usize, Refusal>
-    requires { form_meant form ≡ form_of 0x62 }
+// The end of the edge at `at`.
+fn edge_at(s: &[u8], at: usize) -> Result<usize, Refusal>
     ensures { result ≡ step_of (read_edge s.now at) }
 {
-    let body = records::opening_at(s, at, 0x62, form)?;
+    let body = records::opening_at(s, at, RecordForm::Edge)?;
     if 3 < s[body + 4] {
         return Err(Refusal::WrongValue);
     }
@@ -49,10 +47,9 @@ fn definitions_at(s: &[u8], at: usize, count: usize, places: &mut [u16]) -> Resu
 fn edges_at(s: &[u8], at: usize, count: usize) -> Result<usize, Refusal>
     ensures { result ≡ step_of (many ◌∷◌ [] read_edge count s.now at) }
 {
-    let form = bundle::form_of(0x62);
     let mut next = at;
     for _ in 0..count {
-        next = edge_at(s, next, form)?;
+        next = edge_at(s, next)?;
     }
     Ok(next)
 }
@@ -127,15 +124,14 @@ enum Mark {
 
 // Whether every sequence of TypeRefs from definition `i` ends.
 fn walk_definition(
-    s: &[u8],
-    places: &[u16],
-    count: usize,
+    definitions: &Definitions<'_>,
     marks: &mut [Mark; bundle::DEFINITIONS],
     i: usize,
 ) -> bool
-    requires { Table s.now count places.now × (i < count) × Marks (bundle_of s.now) (i ∷ []) marks.old }
-    ensures { Decided (bundle_of s.now) (i ∷ []) marks.old marks.new result }
+    requires { (i < definitions.now.count) × Marks (bundle_of definitions.now.bytes.now) (i ∷ []) marks.old }
+    ensures { Decided (bundle_of definitions.now.bytes.now) (i ∷ []) marks.old marks.new result }
 {
+    let places = definitions.places;
     match marks[i] {
         Mark::Walked => return true,
         Mark::OnWay => return false,
@@ -143,28 +139,24 @@ fn walk_definition(
     }
     marks[i] = Mark::OnWay;
     let end = places[i + 1] as usize - 3;
-    let mut at = scan::next_stop(s, places[i] as usize, end, Walk::Definitions);
-    while at < end {
-        let found = lookup::definition_of(s, places, count, bundle::u16_at(s, at + 1));
-        at = scan::next_stop(s, at + 3, end, Walk::Definitions);
-        if let Some(j) = found {
-            if !walk_definition(s, places, count, marks, j) {
-                return false;
-            }
+    let mut at = places[i] as usize;
+    while let Some((j, next)) = lookup::next_led(definitions, at, end) {
+        if !walk_definition(definitions, marks, j) {
+            return false;
         }
+        at = next;
     }
     marks[i] = Mark::Walked;
     true
 }
 
 // Whether some definition leads back to itself.
-fn circle(s: &[u8], places: &[u16], count: usize) -> bool
-    requires { Table s.now count places.now }
-    ensures { result ≡ circles (bundle_of s.now) }
+fn circle(definitions: &Definitions<'_>) -> bool
+    ensures { result ≡ circles (bundle_of definitions.now.bytes.now) }
 {
     let mut marks = [Mark::Unseen; bundle::DEFINITIONS];
-    for i in 0..count {
-        if !walk_definition(s, places, count, &mut marks, i) {
+    for i in 0..definitions.count {
+        if !walk_definition(definitions, &mut marks, i) {
             return true;
         }
     }
@@ -178,7 +170,12 @@ pub fn open(bundle: &[u8], places: &mut [u16]) -> Result<Layout, Refusal>
     ensures { IsOpened bundle.now places.new result }
 {
     let layout = bundle_at(bundle, places)?;
-    if circle(bundle, places, layout.definitions) {
+    let definitions = Definitions {
+        bytes: bundle,
+        places,
+        count: layout.definitions,
+    };
+    if circle(&definitions) {
         return Err(Refusal::Circle);
     }
     Ok(layout)

@@ -1,14 +1,19 @@
 // Reads types and expressions by position: accepts exactly the bytes that the format allows.
 #![tactic(auto)]
 
-ghost use Rattle.std.specs.Prelude.{◌≡◌, ◌+◌, ◌≤◌, length};
+ghost use Rattle.std.specs.Prelude.{◌≡◌, ◌+◌, ◌≤◌, ◌<◌, ◌↔◌, IsTrue, length};
 ghost use Rattle.meaning.specs.Kinds.{form_of};
 ghost use Rattle.meaning.specs.ReadExpr.{body, read_expr};
 ghost use Rattle.meaning.specs.ReadType.{head, array_head, member_head, read_ty, read_member, read_members, read_group, read_enum, read_array};
 ghost use Rattle.meaning.specs.Reader.{little};
-ghost use Rattle.bundle.specs.View.{form_meant, operands_of, step_of, count_of};
+ghost use Rattle.bundle.specs.View.{member_kind, member_width, form_meant, kind_is, IsType};
+ghost use Rattle.bundle.specs.View.{operands_of, step_of, count_of, Decodes};
 
 use refusal::Refusal;
+
+mod places;
+
+pub use places::{Definitions, Opened};
 
 // What an expression's kind byte fixes: its body and what follows. A literal has its body length, a field reference its
 // count of names.
@@ -22,17 +27,16 @@ pub enum ExprForm {
     Unary,
 }
 
-// The operands of an expression: none and a body of so many bytes, one, or two. Unknown: the kind is not an expression's.
+// The operands of an expression: none and a body of so many bytes, one, or two.
 #[derive(Clone, Copy)]
 pub enum Operands {
     None(usize),
     One,
     Two,
-    Unknown,
 }
 
 // What a type's kind byte fixes.
-#[derive(Clone, Copy)]
+#[derive(Clone, Copy, PartialEq)]
 pub enum TypeForm {
     Primitive,
     TypeRef,
@@ -43,21 +47,31 @@ pub enum TypeForm {
     SizeUnion,
 }
 
-// What the kind byte of a record outside all types fixes.
+// The members of a struct, union, enum and size-discriminated union, with their kind bytes.
 #[derive(Clone, Copy)]
-pub enum RecordForm {
-    Header,
-    Definition,
-    Edge,
+pub enum MemberForm {
+    Field = 0x50,
+    UnionVariant = 0x51,
+    EnumVariant = 0x52,
+    SizedVariant = 0x53,
 }
 
-// What a kind byte fixes: an expression or type of a form; a member, with the length of the value behind its name; a record outside all
-// types.
+// The records outside all types, with their kind bytes.
+#[derive(Clone, Copy)]
+pub enum RecordForm {
+    Header = 0x60,
+    Definition = 0x61,
+    Edge = 0x62,
+}
+
+// What a kind byte fixes: an expression or type of a form, a member, a record outside all types. Unknown is a case of its own, not an
+// Option's None: most readers ask for one form, and would ask for `Some(Form::OfType(t))`; four others (renumber, scan, sizes, writer) name
+// it among the cases.
 #[derive(Clone, Copy)]
 pub enum Form {
     OfExpr(ExprForm),
     OfType(TypeForm),
-    OfMember(u8),
+    OfMember(MemberForm),
     OfRecord(RecordForm),
     Unknown,
 }
@@ -90,8 +104,9 @@ pub const EDGES: usize = EDGE_LIMIT as usize;
 
 pub const CHAIN_LIMIT: usize = EDGES + 1;
 
-// What `places` has: the positions of the definitions and one more; how many names they have; the first definition of each of these
-// names; and the names, in a table of so many buckets, so that at most 64 names share one. `PLACES` is how many that makes.
+// What `places` has: the positions of the definitions and one more; how many names they have; the first definition of each of these names;
+// and the names, in a table of so many buckets, so that at most 64 names share one. `PLACES` is how many that makes. It is one slice, lent
+// by callers (no heap, fixed memory), and each chooses its length: behind these places stand the notes of a report (field_index, notes).
 pub const NAMES_AT: usize = DEFINITIONS + 1;
 
 pub const FIRSTS_AT: usize = NAMES_AT + 1;
@@ -106,6 +121,63 @@ pub const PLACES: usize = TABLE_AT + BUCKETS + 2 * DEFINITIONS;
 pub const SHORT_BYTES: usize = 1024;
 
 const WIDTHS: [u8; 8] = [8, 4, 2, 1, 8, 4, 2, 1];
+
+// The member of this kind, with no value behind its name, and one with a value. With one function for both the compiler works out a width
+// where it branched, and accepting a bundle of many members takes 7 parts in 100 longer.
+fn bare_member(kind: u8) -> MemberForm
+    requires { (0x50 ≤ kind) × (kind ≤ 0x51) }
+    ensures { member_kind result ≡ kind }
+{
+    if kind == 0x50 {
+        MemberForm::Field
+    } else {
+        MemberForm::UnionVariant
+    }
+}
+
+fn valued_member(kind: u8) -> MemberForm
+    requires { (0x52 ≤ kind) × (kind ≤ 0x53) }
+    ensures { member_kind result ≡ kind }
+{
+    if kind == 0x52 {
+        MemberForm::EnumVariant
+    } else {
+        MemberForm::SizedVariant
+    }
+}
+
+impl TryFrom<u8> for MemberForm {
+    type Error = Refusal;
+
+    ghost try_from_gives = { Decodes };
+
+    fn try_from(kind: u8) -> Result<Self, Refusal> {
+        match kind {
+            0x50 => Ok(MemberForm::Field),
+            0x51 => Ok(MemberForm::UnionVariant),
+            0x52 => Ok(MemberForm::EnumVariant),
+            0x53 => Ok(MemberForm::SizedVariant),
+            _ => Err(Refusal::WrongKind),
+        }
+    }
+}
+
+// The kind byte of a member.
+pub fn member_kind(member: MemberForm) -> u8
+    ensures { result ≡ member_kind member }
+{
+    member as u8
+}
+
+// The bytes of the value behind a member's name.
+pub fn value_width(member: MemberForm) -> u8
+    ensures { result ≡ member_width member }
+{
+    match member {
+        MemberForm::Field | MemberForm::UnionVariant => 0,
+        MemberForm::EnumVariant | MemberForm::SizedVariant => 8,
+    }
+}
 
 // The form of a kind. The compiler takes this function into its callers, which then branch once on the kind, as long as no table of
 // jumps goes over much more than the types: so Sizeof, Alignof and the records outside types are ranges.
@@ -131,8 +203,8 @@ pub fn form_of(kind: u8) -> Form
         0x43 => Form::OfType(TypeForm::Enum),
         0x44 => Form::OfType(TypeForm::Array),
         0x45 => Form::OfType(TypeForm::SizeUnion),
-        0x50..=0x51 => Form::OfMember(0),
-        0x52..=0x53 => Form::OfMember(8),
+        0x50..=0x51 => Form::OfMember(bare_member(kind)),
+        0x52..=0x53 => Form::OfMember(valued_member(kind)),
         0x60..=0x62 => {
             if kind == 0x60 {
                 Form::OfRecord(RecordForm::Header)
@@ -145,6 +217,20 @@ pub fn form_of(kind: u8) -> Form
         _ => Form::Unknown,
     }
 }
+
+// Whether the record at `at` is a type's of this form.
+pub fn type_is(s: &[u8], at: usize, form: TypeForm) -> bool
+    requires { at < length s.now }
+    ensures { IsTrue result ↔ IsType s.now at form }
+{
+    let Form::OfType(t) = form_of(s[at]) else {
+        return false;
+    };
+    t == form
+}
+
+// The readers take the bytes and a place in them. A struct of both, with what is known to stand there as a ghost field, would be made anew
+// for each call, as `At { bytes: s, at: at + 11 }` for `s, at + 11`: they are asked for one place behind the other in the same bytes.
 
 // The end of the n bytes that are due at `at`.
 pub fn skip_bytes(s: &[u8], at: usize, n: usize) -> Result<usize, Refusal>
@@ -159,20 +245,21 @@ pub fn skip_bytes(s: &[u8], at: usize, n: usize) -> Result<usize, Refusal>
 }
 
 // The operands of an expression, by its form.
-fn operands_of(form: Form) -> Operands
+#[tactic(auto, unfolding(crate::specs::View::form_meant, crate::specs::View::expr_form_meant, crate::specs::View::operands_of, crate::specs::View::expr_operands))]
+fn operands_of(form: Form) -> Result<Operands, Refusal>
     ensures { result ≡ operands_of (form_meant form) }
 {
     let Form::OfExpr(expr) = form else {
-        return Operands::Unknown;
+        return Err(Refusal::WrongKind);
     };
-    match expr {
+    Ok(match expr {
         ExprForm::Literal(w) => Operands::None(w as usize),
         ExprForm::FieldRef(n) => Operands::None(2 * (n as usize)),
         ExprForm::Sizeof => Operands::None(2),
         ExprForm::Alignof => Operands::None(2),
         ExprForm::Binary => Operands::Two,
         ExprForm::Unary => Operands::One,
-    }
+    })
 }
 
 // The end of the expression at `at`, where `depth` levels are left. `due` has the levels of the n right operands that are still to
@@ -191,7 +278,7 @@ pub fn expr_at(s: &[u8], at: usize, depth: usize) -> Result<usize, Refusal>
         if s.len() <= next {
             return Err(Refusal::Short);
         }
-        let operands = operands_of(form_of(s[next]));
+        let operands = operands_of(form_of(s[next]))?;
         next += 1;
         level -= 1;
         match operands {
@@ -215,7 +302,6 @@ pub fn expr_at(s: &[u8], at: usize, depth: usize) -> Result<usize, Refusal>
                     next = expr_at(&s[..], next, level)?;
                 }
             }
-            Operands::Unknown => return Err(Refusal::WrongKind),
         }
     }
     Err(Refusal::TooDeep)
@@ -230,6 +316,7 @@ pub fn u16_at(s: &[u8], at: usize) -> u16
 }
 
 // The member count in the body of a struct, union or enum.
+#[tactic(auto, using(crate::proofs::HeadLaws::count_short, crate::proofs::HeadLaws::count_packed, crate::proofs::HeadLaws::count_ok))]
 pub fn count_at(s: &[u8], at: usize) -> Result<(usize, usize), Refusal>
     requires { at ≤ length s.now }
     ensures { result ≡ count_of (head 2 s.now at) }
@@ -245,6 +332,7 @@ pub fn count_at(s: &[u8], at: usize) -> Result<(usize, usize), Refusal>
 }
 
 // The end of an array's body.
+#[tactic(auto, using(crate::proofs::HeadLaws::array_short, crate::proofs::HeadLaws::array_packed, crate::proofs::HeadLaws::array_jagged, crate::proofs::HeadLaws::array_ok))]
 fn array_head_at(s: &[u8], at: usize) -> Result<usize, Refusal>
     requires { at ≤ length s.now }
     ensures { result ≡ step_of (array_head s.now at) }
@@ -261,10 +349,11 @@ fn array_head_at(s: &[u8], at: usize) -> Result<usize, Refusal>
     Ok(at + 10)
 }
 
-// The end of a member's own record, whose kind must be `kind`, of this form.
-pub fn member_head_at(s: &[u8], at: usize, kind: u8, form: Form) -> Result<usize, Refusal>
-    requires { form_meant form ≡ form_of kind }
-    ensures { result ≡ step_of (member_head kind s.now at) }
+// The place behind the kind byte at `at`, which must be `kind`, a member's or a record's: an enum of both would be taken apart again for
+// this byte.
+#[tactic(auto, using(crate::proofs::HeadLaws::kind_short, crate::proofs::HeadLaws::kind_stranger, crate::proofs::HeadLaws::kind_ok))]
+pub fn behind_kind(s: &[u8], at: usize, kind: u8) -> Result<usize, Refusal>
+    ensures { result ≡ step_of (kind_is kind s.now at) }
 {
     if s.len() <= at {
         return Err(Refusal::Short);
@@ -272,10 +361,15 @@ pub fn member_head_at(s: &[u8], at: usize, kind: u8, form: Form) -> Result<usize
     if s[at] != kind {
         return Err(Refusal::WrongKind);
     }
-    let Form::OfMember(w) = form else {
-        return Err(Refusal::WrongKind);
-    };
-    skip_bytes(s, at + 1, 2 + (w as usize))
+    Ok(at + 1)
+}
+
+// The end of a member's own record.
+pub fn member_head_at(s: &[u8], at: usize, member: MemberForm) -> Result<usize, Refusal>
+    ensures { result ≡ step_of (member_head (member_kind member) s.now at) }
+{
+    let body = behind_kind(s, at, member_kind(member))?;
+    skip_bytes(s, body, 2 + (value_width(member) as usize))
 }
 
 // The end of the type at `at`, where `depth` levels are left.
@@ -298,22 +392,22 @@ pub fn type_at(s: &[u8], at: usize, depth: usize) -> Result<usize, Refusal>
     match t {
         TypeForm::Primitive => Ok(body),
         TypeForm::TypeRef => skip_bytes(s, body, 2),
-        TypeForm::Struct => group_at(s, body, depth - 1, 0x50),
-        TypeForm::Union => group_at(s, body, depth - 1, 0x51),
+        TypeForm::Struct => group_at(s, body, depth - 1, MemberForm::Field),
+        TypeForm::Union => group_at(s, body, depth - 1, MemberForm::UnionVariant),
         TypeForm::Enum => enum_at(s, body, depth - 1),
         TypeForm::Array => array_at(s, body, depth - 1),
-        TypeForm::SizeUnion => group_at(s, body, depth - 1, 0x53),
+        TypeForm::SizeUnion => group_at(s, body, depth - 1, MemberForm::SizedVariant),
     }
 }
 
-// The end of the struct or union whose body is at `at` and whose members are of kind `kind`; `depth` is for the types inside.
+// The end of the struct or union whose body is at `at` and which has such members; `depth` is for the types inside.
 #[cycle(types)]
-fn group_at(s: &[u8], at: usize, depth: usize, kind: u8) -> Result<usize, Refusal>
+fn group_at(s: &[u8], at: usize, depth: usize, member: MemberForm) -> Result<usize, Refusal>
     requires { at ≤ length s.now }
-    ensures { result ≡ step_of (read_group (read_ty depth) kind s.now at) }
+    ensures { result ≡ step_of (read_group (read_ty depth) (member_kind member) s.now at) }
 {
     let (n, next) = count_at(s, at)?;
-    members_at(s, next, depth, kind, n)
+    members_at(s, next, depth, member, n)
 }
 
 // The end of the enum whose body is at `at`; `depth` is for what is inside.
@@ -324,7 +418,7 @@ fn enum_at(s: &[u8], at: usize, depth: usize) -> Result<usize, Refusal>
 {
     let (n, next) = count_at(s, at)?;
     let after = expr_at(s, next, depth)?;
-    members_at(s, after, depth, 0x52, n)
+    members_at(s, after, depth, MemberForm::EnumVariant, n)
 }
 
 // The end of the array whose body is at `at`; `depth` is for what is inside.
@@ -338,25 +432,30 @@ fn array_at(s: &[u8], at: usize, depth: usize) -> Result<usize, Refusal>
     type_at(s, after, depth)
 }
 
-// The end of the member at `at`, whose kind must be `kind`, of this form.
+// The end of the member at `at`.
 #[cycle(types)]
-fn member_at(s: &[u8], at: usize, depth: usize, kind: u8, form: Form) -> Result<usize, Refusal>
-    requires { form_meant form ≡ form_of kind }
-    ensures { result ≡ step_of (read_member (read_ty depth) kind s.now at) }
+fn member_at(s: &[u8], at: usize, depth: usize, member: MemberForm) -> Result<usize, Refusal>
+    ensures { result ≡ step_of (read_member (read_ty depth) (member_kind member) s.now at) }
 {
-    let next = member_head_at(s, at, kind, form)?;
+    let next = member_head_at(s, at, member)?;
     type_at(&s[..], next, depth)
 }
 
-// The end of the `count` members at `at`.
+// The end of the `count` members at `at`. It loops as acceptance::{edges_at, definitions_at} do: one function for the three would take the
+// next line as a closure, and nothing else would be left of each.
 #[cycle(types)]
-fn members_at(s: &[u8], at: usize, depth: usize, kind: u8, count: usize) -> Result<usize, Refusal>
-    ensures { result ≡ step_of (read_members (read_ty depth) kind count s.now at) }
+fn members_at(
+    s: &[u8],
+    at: usize,
+    depth: usize,
+    member: MemberForm,
+    count: usize,
+) -> Result<usize, Refusal>
+    ensures { result ≡ step_of (read_members (read_ty depth) (member_kind member) count s.now at) }
 {
-    let form = form_of(kind);
     let mut next = at;
     for _ in 0..count {
-        next = member_at(s, next, depth, kind, form)?;
+        next = member_at(s, next, depth, member)?;
     }
     Ok(next)
 }

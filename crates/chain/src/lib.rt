@@ -5,6 +5,9 @@
 //     3 count + 1 + x       of the number x: the first edge that leads to it
 //     5 count + 1 and on    the names, a table with `BUCKETS` buckets
 // The count stands where there is no such edge: a number and no `Option`, in the caller's places of 16 bits (no heap, fixed memory).
+// It is one slice: with an array of structs for the edges, the first edges and the table would be lent beside it, by each of the 18
+// functions that take `edges` (here and in search, search_from, read_chain and cycles), and each contract would say of three slices what it
+// says of one.
 // No struct holds the places and the count: tried, with the ghost field `Indexed`, and a search took 7 parts in 100 longer.
 #![tactic(auto)]
 
@@ -18,7 +21,8 @@ pub const BUCKETS: usize = 256;
 // Few edges.
 pub const FEW_EDGES: usize = 64;
 
-// How many places the prepared edges have: of few, and of as many as a bundle can have.
+// How many places the prepared edges have: of few, and of as many as a bundle can have. Two constants, here and where other lists are for
+// few and for many: a constant calls no function in Rattle, no `const fn` either, and a const argument is no expression.
 pub const FEW_PLACES: usize = 9 * FEW_EDGES + BUCKETS + 1;
 
 pub const PLACES: usize = 9 * bundle::EDGES + BUCKETS + 1;
@@ -31,6 +35,9 @@ pub enum Direction {
     // Each the other way round.
     Back,
 }
+
+// The edges in the bytes are told by a place and a count, and that they stand there is a clause (`HasEdges`): a struct of the three with
+// that fact would be made for two calls, of find_chain and report_opened, and taken apart by the next function, which reads by place.
 
 // Numbers the names of `count` edges, and writes the numbers of their ends. Returns how many names there are.
 fn number(bytes: &[u8], at: usize, count: usize, direction: Direction, edges: &mut [u16]) -> usize

@@ -51,9 +51,12 @@ fn path(s: &mut [u8], count: usize, apart: u16)
     }
 }
 
-// The name at a place, or 0 behind the end.
-fn name_at(list: &[u16], i: usize) -> u16 {
-    list.get(i).copied().unwrap_or(0)
+// Writes the name at a place, if there is one.
+fn tell_name(rt: &impl Print, list: &[u16], i: usize) -> io::Result<()> {
+    match list.get(i) {
+        Some(name) => print!(rt; "{name} "),
+        None => Ok(()),
+    }
 }
 
 // Writes an answer, and the list that it left.
@@ -61,30 +64,19 @@ fn tell(rt: &impl Print, answer: Result<Listed, Refusal>, list: &[u16]) -> io::R
     match answer {
         Ok(listed) => {
             let n = listed.names;
-            print!(rt; "{n} {} {} ", listed.followed, name_at(list, 0))?;
+            print!(rt; "{n} {} ", listed.followed)?;
+            tell_name(rt, list, 0)?;
             if n != 0 {
-                print!(rt; "{} ", name_at(list, n - 1))?;
+                tell_name(rt, list, n - 1)?;
             }
-            println!(rt; "{} ", name_at(list, n))
+            tell_name(rt, list, n)?;
         }
-        Err(refusal) => println!(rt; "refused {} {} ", u8::from(refusal), name_at(list, 0)),
+        Err(refusal) => {
+            print!(rt; "refused {} ", u8::from(refusal))?;
+            tell_name(rt, list, 0)?;
+        }
     }
-}
-
-// Looks for the chain in the bundle that the first `end` bytes are, with the first `size` places lent.
-fn look(
-    rt: &impl Print,
-    s: &[u8],
-    end: usize,
-    from: u16,
-    to: u16,
-    list: &mut [u16],
-    size: usize,
-) -> io::Result<()>
-    requires { (end ≤ length s.now) × (size ≤ length list.old) }
-{
-    let answer = find_chain::find_layout_dependency_chain(&s[..end], from, to, &mut list[..size]);
-    tell(rt, answer, list)
+    println!(rt; "")
 }
 
 // Looks for the chain on a path, with so many places lent, each of which holds 7.
@@ -101,8 +93,10 @@ fn on_path(
     print!(rt; "{count} {apart} {from} {to} {size} ")?;
     let mut s = [0u8; 6151];
     path(&mut s, count, apart);
+    let bundle = &s[..7 + 6 * count];
     let mut list = [7u16; 1026];
-    look(rt, &s, 7 + 6 * count, from, to, &mut list, size)
+    let answer = find_chain::find_layout_dependency_chain(bundle, from, to, &mut list[..size]);
+    tell(rt, answer, &list)
 }
 
 fn main(rt: HostRuntime) -> io::Result<()> {

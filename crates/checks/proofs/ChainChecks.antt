@@ -99,15 +99,6 @@ module _ (s : List ℕ) (p n : ℕ) (e : n ≡ length (path_at s p)) where
       ap (λ path. (parse_field_reference current path).field) (names_are ∙ ap (names_from s (p + 1)) h)
       ∙ ap (◌∷ []) (ap (λ at. little s at 2) (omega arith) ∙ sym q)
 
-  pub part_none : (n ≡ 1 → ⊥) → (n ≡ 2 → ⊥) → PartOf (path_at s p) None
-  part_none one two current = go (path_at s p) e
-    where
-      go : (path : List ℕ) → n ≡ length path → length (parse_field_reference current path).field ≡ 1 → ⊥
-      go [] h z = omega (arith, z)
-      go (a ∷ []) h z = one h
-      go (a ∷ b ∷ []) h z = two h
-      go (a ∷ b ∷ c ∷ path) h z = omega (arith, z)
-
 -- the size test of the first definition of a name
 pub size_is : {s : List ℕ} {n x i at : ℕ} → DefinitionIs s n x i at → definition_size_depends (bundle_of s) i ≡ holds (named_size_depends (bundle_of s)) (find_type (bundle_of s) x)
 unfolding find_type

@@ -12,15 +12,14 @@ use borrow.Author.Tests.{eq-eqb, ne_eqb}
 use Rattle.meaning.specs.Lists.{holds, or_else, only_if}
 use Rattle.meaning.specs.Lookup.{find_type, is_struct}
 use Rattle.meaning.specs.Sizes.{inline_size_depends, contains_jagged_array}
-use Rattle.meaning.specs.Tree.{Ty, primitive, type_ref, struct, union, enum, array, size_union}
-use Rattle.meaning.specs.Violations.{Violation, violation, jagged_inline, variable_element, nested_jagged, check_jagged_element_kind, check_jagged_array_constraints, check_array_element_type_size}
+use Rattle.meaning.specs.Violations.{Violation, violation, variable_element, nested_jagged, check_jagged_element_kind, check_jagged_array_constraints, check_array_element_type_size}
 use Rattle.bundle.specs.Definitions.{type_at, bundle_of}
 use Rattle.fields.specs.declared.Shape.{Shape}
 use Rattle.fields.specs.declared.Shape.TheVariants as shape
-use Rattle.fields.specs.Shapes.{is_plain, ShapeOf, DefinitionIs}
+use Rattle.fields.specs.Shapes.{ShapeOf, DefinitionIs}
 use Rattle.fields.proofs.ShapeLaws.{shape_other}
 use Rattle.checks.specs.declared.Finding.{Finding}
-use Rattle.checks.specs.declared.Finding.TheVariants.{VariableElement, JaggedReference, JaggedInline, NestedJagged}
+use Rattle.checks.specs.declared.Finding.TheVariants.{VariableElement, NestedJagged}
 use Rattle.checks.specs.Checks.{violation_of, Checked}
 
 -- whether the first definition of a name is no struct
@@ -39,49 +38,11 @@ module _ {s : List ℕ} {n x i at p : ℕ} (g : DefinitionIs s n x i at) (e : p 
 
 -- a chain of the array's name alone
 module _ (s : List ℕ) (n : ℕ) (list : List ℕ) {list' : List ℕ} {b c : ℕ} (w : list' ≡ n ∷ b ∷ c ∷ drop 3 list) {o : ℕ → Option Violation} where
-  pub inline_only : ((i : ℕ) → o i ≡ some (violation jagged_inline i n [] (n ∷ []))) → Checked s n list' (Some JaggedInline) o
-  inline_only h = record { means = λ i. rw w (sym (h i)); fits = omega (arith, ap length w) }
-
   pub nested_only : ((i : ℕ) → o i ≡ some (violation nested_jagged i n [] (n ∷ []))) → Checked s n list' (Some NestedJagged) o
   nested_only h = record { means = λ i. rw w (sym (h i)); fits = omega (arith, ap length w) }
 
   pub element_only : ((i : ℕ) → o i ≡ some (violation variable_element i n [] (n ∷ []))) → Checked s n list' (Some VariableElement) o
   element_only h = record { means = λ i. rw w (sym (h i)); fits = omega (arith, ap length w) }
-
--- the kind of a jagged array's element
-module _ (s : List ℕ) (n at : ℕ) {r : Shape} (g : ShapeOf 23 s at r) where
-  pub kind_struct : {k : ℕ} → r ≡ shape.Struct k → (i : ℕ) → check_jagged_element_kind (bundle_of s) i n (type_at 23 s at) ≡ none
-  kind_struct e i = let h = subst (ShapeOf 23 s at) e g in rw h.tree
-
-  pub kind_inline : ((k : ℕ) → r ≡ shape.Struct k → ⊥) → ((x : ℕ) → r ≡ shape.TypeRef x → ⊥) → (i : ℕ)
-      → check_jagged_element_kind (bundle_of s) i n (type_at 23 s at) ≡ some (violation jagged_inline i n [] (n ∷ []))
-  kind_inline ns nr i = go r refl g
-    where
-      plain : (t : Ty) → is_plain t ≡ true → check_jagged_element_kind (bundle_of s) i n t ≡ some (violation jagged_inline i n [] (n ∷ []))
-      plain (primitive k) q = refl
-      plain (type_ref x) q = let z : ◌≡◌ {A = ℕ} 0 1 = cc in absurd (omega arith)
-      plain (struct a ms) q = let z : ◌≡◌ {A = ℕ} 0 1 = cc in absurd (omega arith)
-      plain (union a ms) q = refl
-      plain (enum a tag ms) q = refl
-      plain (array a jagged size element) q = refl
-      plain (size_union a ms) q = refl
-
-      go : (x : Shape) → r ≡ x → ShapeOf 23 s at x → check_jagged_element_kind (bundle_of s) i n (type_at 23 s at) ≡ some (violation jagged_inline i n [] (n ∷ []))
-      go (shape.Struct k) e h = absurd (ns k e)
-      go shape.Enum e h = rw h.tree
-      go (shape.Array jagged) e h = rw h.tree
-      go (shape.TypeRef x) e h = absurd (nr x e)
-      go shape.Plain e h = plain (type_at 23 s at) h
-
-  module _ {x : ℕ} (e : r ≡ shape.TypeRef x) where
-    pub kind_resolved : false ≡ holds (λ t. not (is_struct t)) (find_type (bundle_of s) x) → (i : ℕ) → check_jagged_element_kind (bundle_of s) i n (type_at 23 s at) ≡ none
-    kind_resolved q i = let h : type_at 23 s at ≡ type_ref x = subst (ShapeOf 23 s at) e g in rw (h, ← q)
-
-    pub kind_reference : true ≡ holds (λ t. not (is_struct t)) (find_type (bundle_of s) x) → (list : List ℕ) {list' : List ℕ} → list' ≡ n ∷ x ∷ 0 ∷ drop 3 list
-        → Checked s n list' (Some JaggedReference) (λ i. check_jagged_element_kind (bundle_of s) i n (type_at 23 s at))
-    kind_reference q list w =
-        let h : type_at 23 s at ≡ type_ref x = subst (ShapeOf 23 s at) e g in
-        record { means = λ i. rw (w, h, ← q); fits = omega (arith, ap length w) }
 
 -- what was found stands before what comes after it
 found_first : (s : List ℕ) (i n : ℕ) (list : List ℕ) (r : CodeOption Finding) (p : Option Violation) → is_some r ≡ true → or_else (violation_of s i n list r) p ≡ violation_of s i n list r

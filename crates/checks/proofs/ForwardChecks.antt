@@ -13,7 +13,7 @@ use Rattle.meaning.specs.Tree.{Member}
 use Rattle.meaning.specs.Sizes.{is_enum_with_constant_size_variants}
 use Rattle.meaning.specs.Violations.{struct_of, stands_before, check_enum_forward_reference_in_same_struct}
 use Rattle.bundle.specs.Definitions.{bundle_of}
-use Rattle.sizes.specs.Scan.{path_at, references_from, found_of, Fits}
+use Rattle.sizes.specs.Scan.{path_at, references_from, Fits}
 use Rattle.sizes.proofs.PathLaws.{Split, split_fit, split_fits}
 use Rattle.checks.specs.declared.Finding.TheVariants.{EnumForward}
 use Rattle.checks.specs.Checks.{target_at, type_part, PartOf, Checked, ReferenceIs}
@@ -70,7 +70,3 @@ referred {s} {end} {at} {p} {n} g f e = record {
   fit = split_fit s end p g f;
   fits = subst (λ k. Fits s (references_from s (p + 1 + 2 * k) end)) (sym e) (split_fits s end p g f);
 }
-
-pub referred_no : (ps : List ℕ) → None ≡ found_of ps → ps ≡ []
-referred_no [] e = refl
-referred_no (p ∷ ps) e = let z : ◌≡◌ {A = ℕ} 0 1 = cc in absurd (omega arith)

@@ -1,20 +1,21 @@
 // What a check finds, the parts of a reference, and the check of an array's element, under the names of the original.
 #![tactic(auto)]
 
-ghost use Rattle.std.specs.Prelude.{◌≡◌, true, false, not, ◌∷◌, ◌≤◌, length, drop};
+ghost use Rattle.std.specs.Prelude.{◌≡◌, not, ◌∷◌, ◌≤◌, length, drop};
 ghost use Rattle.meaning.specs.Limits.{size_limit};
 ghost use Rattle.meaning.specs.Lists.{holds};
 ghost use Rattle.meaning.specs.Lookup.{find_type, is_struct};
 ghost use Rattle.meaning.specs.ReadType.{read_ty};
 ghost use Rattle.meaning.specs.Violations.{check_jagged_element_kind, check_jagged_array_constraints, check_array_element_type_size};
 ghost use Rattle.bundle.specs.View.{Reads};
-ghost use Rattle.bundle.specs.Definitions.{type_at, bundle_of, Table};
+ghost use Rattle.bundle.specs.Definitions.{type_at, bundle_of};
 ghost use Rattle.sizes.specs.Paths.{Fit};
 ghost use Rattle.sizes.specs.Scan.{path_at, references_from, Fits};
-ghost use Rattle.sizes.specs.Tests.{Acyclic, Kept};
 ghost use Rattle.checks.specs.Checks.{PartOf, Checked, Referred};
 
+use bundle::Definitions;
 use fields::Shape;
+use size_tests::TestAnswers;
 
 // A violation that a check finds, by its type. The chain stands beside it in a lent list.
 #[derive(Clone, Copy)]
@@ -63,36 +64,33 @@ pub fn reference_at(s: &[u8], at: usize, end: usize) -> Option<(usize, usize)>
 }
 
 // Whether the first definition of the name is there and is no struct.
-fn is_no_struct(s: &[u8], places: &[u16], count: usize, name: u16) -> bool
-    requires { Table s.now count places.now }
-    ensures { result ≡ holds (λ t. not (is_struct t)) (find_type (bundle_of s.now) name) }
+fn is_no_struct(definitions: &Definitions<'_>, name: u16) -> bool
+    ensures { result ≡ holds (λ t. not (is_struct t)) (find_type (bundle_of definitions.now.bytes.now) name) }
 {
-    let Some(i) = lookup::definition_of(s, places, count, name) else {
+    let Some(i) = lookup::definition_of(definitions, name) else {
         return false;
     };
-    let at = fields::place_of(s, places, count, i).at;
+    let at = fields::place_of(definitions, i).at;
     !matches!(
-        fields::shape_at(s, at, bundle::DEPTH_LIMIT),
+        fields::shape_at(definitions.bytes, at, bundle::DEPTH_LIMIT),
         Shape::Struct(_)
     )
 }
 
 // Types 6 and 7, for the element at `at` of a jagged array.
 fn check_jagged_element_kind(
-    s: &[u8],
-    places: &[u16],
-    count: usize,
+    definitions: &Definitions<'_>,
     name: u16,
     at: usize,
     list: &mut [u16],
 ) -> Option<Finding>
-    requires { Table s.now count places.now × Reads (read_ty 23 s.now at) × (3 ≤ length list.old) }
-    ensures { Checked s.now name list.new result (λ i. check_jagged_element_kind (bundle_of s.now) i name (type_at 23 s.now at)) }
+    requires { Reads (read_ty 23 definitions.now.bytes.now at) × (3 ≤ length list.old) }
+    ensures { Checked definitions.now.bytes.now name list.new result (λ i. check_jagged_element_kind (bundle_of definitions.now.bytes.now) i name (type_at 23 definitions.now.bytes.now at)) }
 {
-    match fields::shape_at(s, at, bundle::DEPTH_INSIDE) {
+    match fields::shape_at(definitions.bytes, at, bundle::DEPTH_INSIDE) {
         Shape::Struct(_) => None,
         Shape::TypeRef(n) => {
-            if !is_no_struct(s, places, count, n) {
+            if !is_no_struct(definitions, n) {
                 return None;
             }
             set_chain(list, name, n, 0);
@@ -105,59 +103,43 @@ fn check_jagged_element_kind(
     }
 }
 
-// Types 6 to 8, for the element at `at` of a jagged array. `nested` has the jagged test's answers.
+// Types 6 to 8, for the element at `at` of a jagged array.
 fn check_jagged_array_constraints(
-    s: &[u8],
-    places: &[u16],
-    count: usize,
-    nested: &mut [Option<bool>; bundle::DEFINITIONS],
+    answers: &mut TestAnswers<'_>,
     name: u16,
     at: usize,
     list: &mut [u16],
 ) -> Option<Finding>
-    requires table { Table s.now count places.now × Reads (read_ty 23 s.now at) × (3 ≤ length list.old) }
-    requires acyclic { Acyclic s.now × Kept s.now true nested.old }
-    ensures { Checked s.now name list.new result (λ i. check_jagged_array_constraints (bundle_of s.now) i name (type_at 23 s.now at)) × Kept s.now true nested.new }
+    requires { Reads (read_ty 23 answers.old.definitions.bytes.now at) × (3 ≤ length list.old) }
+    ensures { Checked answers.old.definitions.bytes.now name list.new result (λ i. check_jagged_array_constraints (bundle_of answers.old.definitions.bytes.now) i name (type_at 23 answers.old.definitions.bytes.now at)) × (answers.new.definitions ≡ answers.old.definitions) }
 {
-    let kind = check_jagged_element_kind(s, places, count, name, at, list);
+    let kind = check_jagged_element_kind(&answers.definitions, name, at, list);
     if kind.is_some() {
         return kind;
     }
-    if !size_tests::type_contains_jagged_array(s, places, count, nested, at, bundle::DEPTH_INSIDE) {
+    if !answers.type_contains_jagged_array(at, bundle::DEPTH_INSIDE) {
         return None;
     }
     set_chain(list, name, 0, 0);
     Some(Finding::NestedJagged)
 }
 
-// Types 5 to 8, for the element at `at` of an array whose jagged byte is `jagged`. `kept` has the size test's answers, and `nested`
-// the jagged test's.
+// Types 5 to 8, for the element at `at` of an array whose jagged byte is `jagged`. It is asked here alone: an enum would be made from the
+// byte by the one caller, for one question, and need a definition that takes it back to the byte that the specification's check asks.
 pub fn check_array_element_type_size(
-    s: &[u8],
-    places: &[u16],
-    count: usize,
-    kept: &mut [Option<bool>; bundle::DEFINITIONS],
-    nested: &mut [Option<bool>; bundle::DEFINITIONS],
+    answers: &mut TestAnswers<'_>,
     name: u16,
     jagged: u8,
     at: usize,
     list: &mut [u16],
 ) -> Option<Finding>
-    requires table { Table s.now count places.now × Reads (read_ty 23 s.now at) × (3 ≤ length list.old) }
-    requires acyclic { Acyclic s.now × Kept s.now false kept.old × Kept s.now true nested.old }
-    ensures { Checked s.now name list.new result (λ i. check_array_element_type_size (bundle_of s.now) i name jagged (type_at 23 s.now at)) × Kept s.now false kept.new × Kept s.now true nested.new }
+    requires { Reads (read_ty 23 answers.old.definitions.bytes.now at) × (3 ≤ length list.old) }
+    ensures { Checked answers.old.definitions.bytes.now name list.new result (λ i. check_array_element_type_size (bundle_of answers.old.definitions.bytes.now) i name jagged (type_at 23 answers.old.definitions.bytes.now at)) × (answers.new.definitions ≡ answers.old.definitions) }
 {
     if jagged == 1 {
-        return check_jagged_array_constraints(s, places, count, nested, name, at, list);
+        return check_jagged_array_constraints(answers, name, at, list);
     }
-    if !size_tests::type_size_depends_on_field_refs_recursive(
-        s,
-        places,
-        count,
-        kept,
-        at,
-        bundle::DEPTH_INSIDE,
-    ) {
+    if !answers.type_size_depends_on_field_refs_recursive(at, bundle::DEPTH_INSIDE) {
         return None;
     }
     set_chain(list, name, 0, 0);

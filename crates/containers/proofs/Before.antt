@@ -4,7 +4,7 @@ use Prim.Native.Nat.{ℕ}
 use mathlib.Core.Bool.{Bool, true, false, ◌&&◌}
 use mathlib.Core.List.{List, [], ◌∷◌}
 use mathlib.Core.Option.{Option, none, some}
-use mathlib.Core.Path.{◌≡◌, refl, ap, ◌∙◌}
+use mathlib.Core.Path.{◌≡◌, refl, sym, ap, ◌∙◌}
 use lib.Dec.{ltb}
 use lib.ListN.{get_or}
 use Rattle.meaning.specs.Lists.{last_index, holds, precedes}
@@ -16,7 +16,9 @@ use Rattle.bundle.specs.Definitions.{type_at, bundle_of}
 use Rattle.fields.specs.Shapes.{DefinitionIs}
 use Rattle.fields.specs.Sought.{refers, named}
 use Rattle.field_index.specs.Noted.{struct_fields, fields_at, index_shown}
-use Rattle.containers.specs.Containers.{held_in, is_before}
+use Rattle.containers.specs.declared.Container.{Container}
+use Rattle.containers.specs.declared.Container.TheVariants.{At}
+use Rattle.containers.specs.Containers.{held_in, held_shown, is_before}
 
 -- the fields of a struct
 the_fields : (t : Ty) (ms : List Member) → as_struct t ≡ some ms → struct_fields t ≡ ms
@@ -41,19 +43,22 @@ precedes_none : (o p : Option ℕ) → code.None ≡ index_shown o → false ≡
 precedes_none none p e = refl
 precedes_none (some i) p e = cc
 
-precedes_no : (o p : Option ℕ) → code.None ≡ index_shown p → false ≡ precedes o p
-precedes_no none p e = refl
-precedes_no (some i) none e = refl
-precedes_no (some i) (some j) e = cc
+precedes_no : (o : Option ℕ) → false ≡ precedes o none
+precedes_no none = refl
+precedes_no (some i) = refl
 
-precedes_shown : (o p : Option ℕ) {i j : ℕ} → code.Some i ≡ index_shown o → code.Some j ≡ index_shown p → ltb i j ≡ precedes o p
-precedes_shown none p e f = cc
-precedes_shown (some i) none e f = cc
-precedes_shown (some i) (some j) e f = cc
+precedes_shown : (o : Option ℕ) {i : ℕ} (j : ℕ) → code.Some i ≡ index_shown o → ltb i j ≡ precedes o (some j)
+precedes_shown none j e = cc
+precedes_shown (some i) j e = cc
+
+-- the index in an answer
+pub held_at : {k : ℕ} (o : code.Option ℕ) → At k ≡ held_shown o → code.Some k ≡ o
+held_at code.None e = cc
+held_at (code.Some i) e = cc
 
 module _ (s : List ℕ) (e x f : ℕ) where
   -- no field is a TypeRef to the enum, or its variants are of constant size
-  pub before_none : code.None ≡ held_in (bundle_of s) e x → false ≡ is_before (bundle_of s) e x f
+  before_none : code.None ≡ held_in (bundle_of s) e x → false ≡ is_before (bundle_of s) e x f
   before_none p = go (holds is_enum_with_constant_size_variants (find_type (bundle_of s) e)) refl (struct_of (bundle_of s) x) refl
     where
       go : (c : Bool) → holds is_enum_with_constant_size_variants (find_type (bundle_of s) e) ≡ c → (o : Option (List Member)) → struct_of (bundle_of s) x ≡ o → false ≡ is_before (bundle_of s) e x f
@@ -62,6 +67,13 @@ module _ (s : List ℕ) (e x f : ℕ) where
       go false q (some ms) g =
           let z : code.None ≡ index_shown (last_index (refers e) ms) = p ∙ rw (q, g) refl in
           rw (q, g) (precedes_none (last_index (refers e) ms) (last_index (named f) ms) z ∙ and_true (stands_before e (f ∷ []) ms))
+
+  pub before_other : (r : Container) → ((k : ℕ) → r ≡ At k → ⊥) → r ≡ held_shown (held_in (bundle_of s) e x) → false ≡ is_before (bundle_of s) e x f
+  before_other r not p = go (held_in (bundle_of s) e x) refl
+    where
+      go : (o : code.Option ℕ) → held_in (bundle_of s) e x ≡ o → false ≡ is_before (bundle_of s) e x f
+      go code.None q = before_none (sym q)
+      go (code.Some k) q = absurd (not k (p ∙ ap held_shown q))
 
   -- there is no such struct
   pub before_no : struct_of (bundle_of s) x ≡ none → false ≡ is_before (bundle_of s) e x f
@@ -84,8 +96,8 @@ module _ (s : List ℕ) (e x f : ℕ) where
             rw (k, the_struct, g)
             (h ms (p ∙ rw (k, the_struct, g) refl) (the_fields (type_at 24 s (get_or places i 0)) ms g) ∙ and_true (stands_before e (f ∷ []) ms))
 
-    pub before_unnamed : code.None ≡ index_shown (last_index (named f) (fields_at s places i)) → false ≡ is_before (bundle_of s) e x f
-    before_unnamed q = compared (λ ms h same. precedes_no (last_index (refers e) ms) (last_index (named f) ms) (q ∙ ap (λ xs. index_shown (last_index (named f) xs)) same))
+    pub before_unnamed : last_index (named f) (fields_at s places i) ≡ none → false ≡ is_before (bundle_of s) e x f
+    before_unnamed q = compared (λ ms h same. rw (← same, q) (precedes_no (last_index (refers e) (fields_at s places i))))
 
-    pub before_shown : {last : ℕ} → code.Some last ≡ index_shown (last_index (named f) (fields_at s places i)) → ltb held last ≡ is_before (bundle_of s) e x f
-    before_shown q = compared (λ ms h same. precedes_shown (last_index (refers e) ms) (last_index (named f) ms) h (q ∙ ap (λ xs. index_shown (last_index (named f) xs)) same))
+    pub before_shown : {last : ℕ} → last_index (named f) (fields_at s places i) ≡ some last → ltb held last ≡ is_before (bundle_of s) e x f
+    before_shown q = compared (λ ms h same. rw (← same, q) (precedes_shown (last_index (refers e) (fields_at s places i)) _ (rw same h)))

@@ -20,7 +20,9 @@ use Rattle.fields.specs.Shapes.{DefinitionIs}
 use Rattle.fields.specs.Sought.{refers}
 use Rattle.fields.proofs.Lookups.{defined, undefined}
 use Rattle.field_index.specs.Noted.{lead_is, struct_fields, fields_at, constants_at, index_shown, ConstantsNoted}
-use Rattle.containers.specs.Containers.{LeadFor, last_held, held_in, container_shown}
+use Rattle.containers.specs.declared.Container.{Container}
+use Rattle.containers.specs.declared.Container.TheVariants.{Nowhere}
+use Rattle.containers.specs.Containers.{LeadFor, last_held, held_in, held_shown, container_shown}
 use Rattle.containers.proofs.Containing.{last_held_lem}
 
 module _ (s : List ℕ) (e x : ℕ) where
@@ -48,22 +50,22 @@ pub held_small : (s : List ℕ) → length s ≤ 32768 → (r : Option ℕ) → 
 held_small s l (Some k) h = omega (arith, h)
 held_small s l None h = tt
 
--- the answer for a name
+-- what an answer for a name says
 module _ (s : List ℕ) (e x : ℕ) where
-  -- what an answer says
-  pub shown_yes : {r : Option ℕ} → Some r ≡ container_shown (bundle_of s) e x → (true ≡ is_enum_referencing_same_container_struct (bundle_of s) e x) × (r ≡ held_in (bundle_of s) e x)
-  shown_yes {r} p = go (is_enum_referencing_same_container_struct (bundle_of s) e x) p
+  pub shown_yes : {c : Container} → c ≡ container_shown (bundle_of s) e x → (c ≡ Nowhere → ⊥) → (true ≡ is_enum_referencing_same_container_struct (bundle_of s) e x) × (c ≡ held_shown (held_in (bundle_of s) e x))
+  shown_yes {c} p n = go (is_enum_referencing_same_container_struct (bundle_of s) e x) p
     where
-      go : (t : Bool) → Some r ≡ cond t (Some (held_in (bundle_of s) e x)) None → (true ≡ t) × (r ≡ held_in (bundle_of s) e x)
-      go true q = (refl, cc)
-      go false q = cc
+      go : (t : Bool) → c ≡ cond t (held_shown (held_in (bundle_of s) e x)) Nowhere → (true ≡ t) × (c ≡ held_shown (held_in (bundle_of s) e x))
+      go true q = (refl, q)
+      go false q = absurd (n q)
 
-  pub shown_no : None ≡ container_shown (bundle_of s) e x → false ≡ is_enum_referencing_same_container_struct (bundle_of s) e x
-  shown_no p = go (is_enum_referencing_same_container_struct (bundle_of s) e x) p
+  pub shown_no : Nowhere ≡ container_shown (bundle_of s) e x → false ≡ is_enum_referencing_same_container_struct (bundle_of s) e x
+  shown_no p = go (is_enum_referencing_same_container_struct (bundle_of s) e x) (held_in (bundle_of s) e x) p
     where
-      go : (t : Bool) → None ≡ cond t (Some (held_in (bundle_of s) e x)) None → false ≡ t
-      go true q = cc
-      go false q = refl
+      go : (t : Bool) (o : Option ℕ) → Nowhere ≡ cond t (held_shown o) Nowhere → false ≡ t
+      go true None q = cc
+      go true (Some k) q = cc
+      go false o q = refl
 
 -- whether the variants of e are of constant size, by what is noted of its first definition
 mark_is : (b : Bool) → eqb (from_bool b) 1 ≡ b

@@ -1,5 +1,5 @@
 -- What is kept of an enum and the names to which its tag refers.
-use Rattle.std.specs.Prelude.{ℕ, ◌+◌, ◌-◌, ◌<◌, Bool, not, cond, ◌&&◌, List, [], ◌∷◌, ◌≡◌, eqb, length, get_or, Option, Some, None, IfSome}
+use Rattle.std.specs.Prelude.{ℕ, ◌+◌, ◌-◌, ◌<◌, Bool, not, cond, ◌&&◌, List, [], ◌∷◌, ◌≡◌, eqb, length, get_or, Option, Some, None}
 use Rattle.std.proofs.Math.Option as option
 use Rattle.meaning.specs.Limits.{definition_limit}
 use Rattle.meaning.specs.Lists.{any, last_index, holds}
@@ -10,6 +10,8 @@ use Rattle.meaning.specs.Violations.{is_enum_referencing_same_container_struct, 
 use Rattle.meaning.specs.Reader.{little}
 use Rattle.bundle.specs.Definitions.{type_at, bundle_of}
 use Rattle.fields.specs.Sought.{refers}
+use Rattle.containers.specs.declared.Container.{Container}
+use Rattle.containers.specs.declared.Container.TheVariants.{Nowhere, Somewhere, At}
 use Rattle.field_index.specs.Noted.{index_shown}
 
 -- the name e is defined
@@ -38,26 +40,21 @@ last_held e (option.some ms) = index_shown (last_index (refers e) ms)
 abbrev pub held_in : Bundle → ℕ → ℕ → Option ℕ
 held_in b e x = cond (holds is_enum_with_constant_size_variants (find_type b e)) None (last_held e (struct_of b x))
 
--- that where some definition of the name x is a struct that holds e, and None where none is
-abbrev pub container_shown : Bundle → ℕ → ℕ → Option (Option ℕ)
-container_shown b e x = cond (is_enum_referencing_same_container_struct b e x) (Some (held_in b e x)) None
+-- how the code shows that where some struct of the name x holds e
+abbrev pub held_shown : Option ℕ → Container
+held_shown None = Somewhere
+held_shown (Some k) = At k
 
--- how it is kept as a number
-abbrev pub kept_shown : Option (Option ℕ) → ℕ
-kept_shown None = 1
-kept_shown (Some None) = 2
-kept_shown (Some (Some k)) = k + 3
-
--- the number has 16 bits
-abbrev pub Short : Option (Option ℕ) → Type 0
-Short o = IfSome o (λ held. IfSome held (λ k. k < 32768))
+-- the same where none does too
+abbrev pub container_shown : Bundle → ℕ → ℕ → Container
+container_shown b e x = cond (is_enum_referencing_same_container_struct b e x) (held_shown (held_in b e x)) Nowhere
 
 -- what type 1 asks of the enum e and a reference to the field f of the first definition of the name x, if that is a struct
 abbrev pub is_before : Bundle → ℕ → ℕ → ℕ → Bool
 is_before b e x f = holds (stands_before e (f ∷ [])) (struct_of b x) && not (holds is_enum_with_constant_size_variants (find_type b e))
 
--- the name e is defined; `known` has the answers of the enum e, for names by their first definitions, and 0 where one is not known yet
-pub record Known (s : List ℕ) (e : ℕ) (known : List ℕ) : Type 0 where
+-- the name e is defined; `known` has answers of the enum e, for names by their first definitions
+pub record Known (s : List ℕ) (e : ℕ) (known : List (Option Container)) : Type 0 where
   pub size : length known ≡ definition_limit
   pub defined : Defined s e
-  pub each : (i : ℕ) → i < definition_limit → 0 < get_or known i 0 → (x : ℕ) → definition_of (bundle_of s) x ≡ i → get_or known i 0 ≡ kept_shown (container_shown (bundle_of s) e x)
+  pub each : (i : ℕ) → i < definition_limit → (c : Container) → get_or known i None ≡ Some c → (x : ℕ) → definition_of (bundle_of s) x ≡ i → c ≡ container_shown (bundle_of s) e x

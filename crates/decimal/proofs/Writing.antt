@@ -2,10 +2,10 @@
 use Prim.Native.Nat.{ℕ, zero, suc, ◌+◌, ◌*◌, ◌≤◌, ◌<◌}
 use native.Mathlib.Omega.{arith}
 use native.Mathlib.Numerals.{add-one}
-use mathlib.Core.List.{List, [], ◌∷◌, ◌++◌, append_assoc, map, map-append}
-use Rattle.std.proofs.lemmas.List.{map-id}
+use mathlib.Core.List.{List, [], ◌∷◌, ◌++◌, append_assoc, append-nil, map, map-append}
+use Rattle.std.proofs.lemmas.List.{map-id, take_more_set}
 use mathlib.Core.Path.{◌≡◌, sym, ap, subst, ◌∙◌}
-use lib.ListN.{length, take, get_or, length-append}
+use lib.ListN.{length, take, set, get_or, length-append, length-set}
 use lib.Seq.{take-suc, length-take-le}
 use Rattle.decimal.specs.Decimal.{lines, Writes}
 use Rattle.decimal.proofs.DecimalLaws.{lines_append}
@@ -13,6 +13,16 @@ use Rattle.decimal.proofs.DecimalLaws.{lines_append}
 -- one text behind another
 pub writes_then : {xs ys a b d : List ℕ} {at m r : ℕ} → Writes xs a at b m → Writes ys b m d r → Writes (xs ++ ys) a at d r
 writes_then {xs} {ys} {a} {at = at} w v = record { room = v.room; places = v.places ∙ ap (λ l. l ++ ys) w.places ∙ append_assoc (take at a) xs ys }
+
+-- no text, and a byte behind a text
+pub writes_none : (a : List ℕ) {at : ℕ} → at ≤ length a → Writes [] a at a at
+writes_none a {at} h = record { room = h; places = sym (append-nil (take at a)) }
+
+pub writes_byte : {xs a b : List ℕ} {at m : ℕ} (v : ℕ) → Writes xs a at b m → m < length b → Writes (xs ++ v ∷ []) a at (set b m v) (m + 1)
+writes_byte {xs} {a} {b} {at} {m} v w h = record {
+  room = omega (arith, length-set b m v);
+  places = take_more_set b m v h ∙ ap (λ l. l ++ v ∷ []) w.places ∙ append_assoc (take at a) xs (v ∷ []);
+}
 
 -- where the text ends
 pub writes_end : {xs a b : List ℕ} {at r : ℕ} → Writes xs a at b r → at ≤ length a → r ≡ at + length xs

@@ -1,40 +1,33 @@
 -- Records that stand in a draft, copied to their places in the report.
 use Prim.Native.Nat.{ℕ, ◌+◌, ◌-◌, ◌≤◌}
 use native.Mathlib.Omega.{arith}
-use mathlib.Core.Path.{◌≡◌, sym, ap, subst, ◌∙◌}
+use mathlib.Core.Path.{◌≡◌, ap, subst, ◌∙◌}
 use mathlib.Core.List.{List, ◌++◌, append_assoc}
-use lib.ListN.{length, take, drop, length-drop}
-use lib.Seq.{sets, sets-eq, length-take-le, take_at, drop_at}
+use lib.ListN.{length, take, drop}
+use lib.Seq.{sets-eq, length-take-le, take_at, drop_at}
 use Rattle.violation.specs.Records.{Puts}
-use Rattle.violation.proofs.Putting.{puts_size}
 use Rattle.meaning.specs.Violations.{Violation}
-use Rattle.validate.specs.declared.Position.{Position}
+use Rattle.validate.specs.declared.Report.{Report}
 use Rattle.validate.specs.Validating.{record_bytes, Wrote}
 
--- records that fit into a draft stand there
-pub drafted : {vs : List Violation} {draft draft' out out' : List ℕ} {p q : Position} {r : ℕ} → p.at ≡ 3 → Wrote vs draft p draft' q → q.at ≤ length draft
-    → Puts (take (q.at - 3) (drop 3 draft')) out 3 out' r → Wrote vs out p out' q
-drafted {vs} {draft} {draft'} {out} {out'} {p} {q} {r} t w fits copied = record {
-  puts = subst (λ xs. Puts xs out p.at out' q.at) inside (subst (λ k. Puts (take (q.at - 3) (drop 3 draft')) out k out' q.at) (sym t) c);
-  counts = w.counts;
-  short = w.short;
-}
+-- what is written of a report that starts behind its head
+pub records : {vs : List Violation} {p q : Report} → p.at ≡ 3 → Wrote vs p q → Puts (record_bytes vs) p.out.now 3 q.out.now q.at
+records {vs} {p} {q} e w = subst (λ k. Puts (record_bytes vs) p.out.now k q.out.now q.at) e w.puts
+
+-- what fits into a draft, copied from there
+pub drafted : {xs ys draft draft' out out' : List ℕ} {m r : ℕ} → Puts xs draft 3 draft' m → m ≤ length draft
+    → Puts ys out 3 out' r → ys ≡ take (m - 3) (drop 3 draft') → Puts xs out 3 out' m
+drafted {xs} {ys} {draft} {draft'} {out} {out'} {m} {r} w fits copied part = subst (λ k. Puts xs out 3 out' k) behind (subst (λ zs. Puts zs out 3 out' r) inside copied)
   where
-    long : length (take (q.at - 3) (drop 3 draft')) ≡ q.at - 3
-    long = length-take-le (q.at - 3) (drop 3 draft') (omega (arith, length-drop 3 draft', puts_size w.puts))
+    whole : draft' ≡ take 3 draft ++ (xs ++ drop (3 + length xs) draft)
+    whole = w.written ∙ sets-eq xs draft 3 (omega (arith, w.behind)) ∙ append_assoc (take 3 draft) xs (drop (3 + length xs) draft)
 
-    c : Puts (take (q.at - 3) (drop 3 draft')) out 3 out' q.at
-    c = let e : r ≡ q.at = omega (arith, copied.behind, long, t, w.puts.behind) in rw e at copied
-
-    size : q.at ≡ 3 + length (record_bytes vs)
-    size = omega (arith, t, w.puts.behind)
-
-    whole : draft' ≡ take 3 draft ++ (record_bytes vs ++ drop (3 + length (record_bytes vs)) draft)
-    whole = w.puts.written ∙ ap (λ k. sets draft k (record_bytes vs)) t ∙ sets-eq (record_bytes vs) draft 3 (omega (arith, size))
-        ∙ append_assoc (take 3 draft) (record_bytes vs) (drop (3 + length (record_bytes vs)) draft)
-
-    inside : take (q.at - 3) (drop 3 draft') ≡ record_bytes vs
+    inside : ys ≡ xs
     inside =
-        ap (λ d. take (q.at - 3) (drop 3 d)) whole
-        ∙ ap (take (q.at - 3)) (drop_at (take 3 draft) (record_bytes vs ++ drop (3 + length (record_bytes vs)) draft) 3 (length-take-le 3 draft (omega (arith, size))))
-        ∙ take_at (record_bytes vs) (drop (3 + length (record_bytes vs)) draft) (q.at - 3) (omega (arith, size))
+        part
+        ∙ ap (λ d. take (m - 3) (drop 3 d)) whole
+        ∙ ap (take (m - 3)) (drop_at (take 3 draft) (xs ++ drop (3 + length xs) draft) 3 (length-take-le 3 draft (omega (arith, w.behind))))
+        ∙ take_at xs (drop (3 + length xs) draft) (m - 3) (omega (arith, w.behind))
+
+    behind : r ≡ m
+    behind = omega (arith, copied.behind, ap length inside, w.behind)

@@ -24,25 +24,22 @@ use Rattle.bundle.specs.Opened.{LayoutOf, answer_meant}
 use Rattle.bundle.proofs.AnswerLaws.{due_opened}
 use Rattle.violation.specs.Records.{Puts}
 use Rattle.violation.proofs.Putting.{puts_both}
-use Rattle.validate.specs.declared.Position.{Position}
-use Rattle.validate.specs.Validating.{Wrote, Room}
+use Rattle.validate.specs.declared.Report.{Report}
+use Rattle.validate.specs.Validating.{record_bytes, Wrote, Room}
 
 -- a bundle that was read has few violations
 pub read_few : (s : List ℕ) {l : Layout} {places : List ℕ} → Bytes s → LayoutOf s l places → length (violations (bundle_of s)) ≤ 65535
 read_few s b g = let h = violations_few (bundle_of s) (bundle_within s b (bundle_of s) (length s) g.read) in omega arith
 
 -- a report starts behind its head
-abbrev start : Position
-start = record { at = 3; count = 0 }
-
-pub start_room : (b : Bundle) → length (violations b) ≤ 65535 → Room start (violations b)
-start_room b h = record { far = omega arith; few = omega arith }
+pub start_room : (b : Bundle) {p : Report} → p.at ≡ 3 → p.count ≡ 0 → length (violations b) ≤ 65535 → Room p (violations b)
+start_room b e z h = record { far = omega arith; few = omega arith }
 
 -- the length of the report is what the first run counts
-module _ (b : Bundle) {nowhere nowhere' : List ℕ} {c : Position} (w : Wrote (violations b) nowhere start nowhere' c) where
+module _ (b : Bundle) {p c : Report} (starts : p.at ≡ 3) (none : p.count ≡ 0) (w : Wrote (violations b) p c) where
   counted_size : length (report b) ≡ c.at
   unfolding report
-  counted_size = omega (arith, w.puts.behind)
+  counted_size = omega (arith, w.puts.behind, starts)
 
   -- the report is longer than the places
   pub too_long : (out : List ℕ) → length out < c.at → Call (result (report b)) out out (answer_meant (Err NoRoom))
@@ -52,24 +49,24 @@ module _ (b : Bundle) {nowhere nowhere' : List ℕ} {c : Position} (w : Wrote (v
       record { answer = rw t; places = rw t }
 
   -- the head and the records are the report
-  report_puts : {out o₁ o₂ out' : List ℕ} {m₁ m₂ : ℕ} {e : Position} → Puts (0x70 ∷ []) out 0 o₁ m₁ → Puts (bytes (two_bytes c.count)) o₁ m₁ o₂ m₂
-      → Wrote (violations b) o₂ start out' e → Puts (report b) out 0 out' e.at
+  report_puts : {out o₁ o₂ out' : List ℕ} {m₁ m₂ e : ℕ} → Puts (0x70 ∷ []) out 0 o₁ m₁ → Puts (bytes (two_bytes c.count)) o₁ m₁ o₂ m₂
+      → Puts (record_bytes (violations b)) o₂ 3 out' e → Puts (report b) out 0 out' e
   unfolding report
   report_puts {out} {o₁} {o₂} {out'} {m₁} {m₂} p q r =
       let three : m₂ ≡ 3 = omega (arith, p.behind, q.behind) in
-      let counts : c.count ≡ length (violations b) = omega (arith, w.counts) in
-      puts_both p (puts_both (subst (λ k. Puts (bytes (two_bytes k)) o₁ m₁ o₂ 3) counts (subst (λ k. Puts (bytes (two_bytes c.count)) o₁ m₁ o₂ k) three q)) r.puts)
+      let counts : c.count ≡ length (violations b) = omega (arith, w.counts, none) in
+      puts_both p (puts_both (subst (λ k. Puts (bytes (two_bytes k)) o₁ m₁ o₂ 3) counts (subst (λ k. Puts (bytes (two_bytes c.count)) o₁ m₁ o₂ k) three q)) r)
 
-  pub written_whole : {out o₁ o₂ out' : List ℕ} {m₁ m₂ : ℕ} {e : Position} → c.at ≤ length out → Puts (0x70 ∷ []) out 0 o₁ m₁ → Puts (bytes (two_bytes c.count)) o₁ m₁ o₂ m₂
-      → Wrote (violations b) o₂ start out' e → Call (result (report b)) out out' (answer_meant (Ok e.at))
+  pub written_whole : {out o₁ o₂ o₃ out' : List ℕ} {m₁ m₂ e : ℕ} → c.at ≤ length out → Puts (0x70 ∷ []) out 0 o₁ m₁ → Puts (bytes (two_bytes c.count)) o₁ m₁ o₂ m₂
+      → Puts (record_bytes (violations b)) o₂ 3 o₃ e → out' ≡ o₃ → Call (result (report b)) out out' (answer_meant (Ok e))
   unfolding answer_meant answer_of places_after
-  written_whole {out} h p q r =
+  written_whole {out} h p q r same =
       let t = le-leb (length (report b)) (length out) (omega (arith, counted_size)) in
       let g = report_puts p q r in
       let z : 0 + length (report b) ≡ length (report b) = omega arith in
       record {
         answer = rw t (ap accepted (g.behind ∙ z));
-        places = rw t (g.written ∙ sets-eq (report b) out 0 (omega (arith, counted_size)) ∙ ap (λ k. report b ++ drop k out) z);
+        places = rw t (same ∙ g.written ∙ sets-eq (report b) out 0 (omega (arith, counted_size)) ∙ ap (λ k. report b ++ drop k out) z);
       }
 
 -- a call for an accepted bundle

@@ -1,9 +1,9 @@
 -- The value of an expression by its form, in the form in which the code returns it.
 use Prim.Native.Nat.{ℕ, ◌+◌, ◌-◌, ◌≤◌, ◌<◌}
 use native.Mathlib.Omega.{arith}
-use mathlib.Core.Bool.{Bool, true, false, true≢false}
+use mathlib.Core.Bool.{true≢false}
 use mathlib.Core.List.{List}
-use mathlib.Core.Option.{Option, some, none}
+use mathlib.Core.Option.{some, none}
 use mathlib.Core.Path.{◌≡◌, refl, sym, ap, ◌∙◌}
 use lib.Dec.{T, leb, leb→le}
 use lib.IntN.{ℤ, pos, negsuc, nat_abs}
@@ -34,8 +34,10 @@ use Rattle.fixed_meaning.specs.Value.{valued, unvalued, literal_value, operation
 use Rattle.fixed_meaning.specs.Fixed.{count_by, count_of}
 use Rattle.fixed_meaning.proofs.Every.{every_at}
 use Rattle.extents.specs.Meant.{count_meant}
-use Rattle.values.specs.Meant.{value_meant, covers}
+use Rattle.values.specs.declared.Operation.{Operation}
+use Rattle.values.specs.Meant.{value_meant, operation_kind}
 use Rattle.values.proofs.Arithmetic.{back}
+use Rattle.values.proofs.Operations.{operation_is}
 use Rattle.refusal.specs.declared.Refusal.{Refusal}
 use Rattle.refusal.specs.Numbers.{number}
 use Rattle.evaluate.specs.Evaluates.{Evaluates}
@@ -92,9 +94,9 @@ module _ {d at : ℕ} {s : List ℕ} {f : Form} (o : Opened d at s f) (r : Reads
     literal_is : expr_at d s at ≡ literal (get_or s at 0) (little s (at + 1) w)
     literal_is = literal_tree o r w p ∙ ap (literal (get_or s at 0)) (rw (due_ok w (at + 1) s literal_there))
 
-    pub literal_valued : (v : ℕ) → v ≡ little s (at + 1) w → literal_value (get_or s at 0) v ≡ value_of (expr_at d s at)
+    pub literal_valued : (v : ℕ) → v ≡ little s (at + 1) w → (y : meaning.Value) → y ≡ literal_value (get_or s at 0) v → y ≡ value_of (expr_at d s at)
     unfolding value_of
-    literal_valued v e = ap (literal_value (get_or s at 0)) e ∙ sym (rw literal_is)
+    literal_valued v e y same = same ∙ ap (literal_value (get_or s at 0)) e ∙ sym (rw literal_is)
 
     pub literal_end : Ok (at + 1 + w) ≡ step_of (read_expr d s at)
     literal_end = ap Ok (sym body_ends.1.0) ∙ body_ends.1.1.1
@@ -111,25 +113,17 @@ module _ {d at : ℕ} {s : List ℕ} {f : Form} (o : Opened d at s f) (r : Reads
       binary_is = rw (binary_tree o r p m e)
 
     -- is not covered
-    pub kind_refused : (t : Bool) → t ≡ covers (operation_of operations kind) → t ≡ false → unvalued 15 ≡ value_of (expr_at d s at)
-    unfolding operated operated_by covers
-    kind_refused t c h = let m = ended (read_expr (d - 1) s (at + 1)) (left_reads o r p) in sym (binary_is m.0 m.1 ∙ go (operation_of operations kind) (sym c ∙ h) _ _)
-      where
-        go : (x : Option (ℤ → ℤ → meaning.Value)) → covers x ≡ false → (l r : meaning.Value) → operated_by x l r ≡ unvalued 15
-        go none h l r = refl
-        go (some g) h l r = let z : ◌≡◌ {A = ℕ} 0 1 = cc in absurd (omega arith)
+    pub kind_refused : operation_of operations kind ≡ none → unvalued 15 ≡ value_of (expr_at d s at)
+    unfolding operated operated_by
+    kind_refused h = let m = ended (read_expr (d - 1) s (at + 1)) (left_reads o r p) in sym (binary_is m.0 m.1 ∙ rw h)
 
     -- is covered
-    module _ (t : Bool) (c : t ≡ covers (operation_of operations kind)) (h : t ≡ true) where
+    module _ (x : Operation) (c : operation_kind x ≡ kind) where
       by_sides : (l r : meaning.Value) (k : ℕ) → ((g : ℤ → ℤ → meaning.Value) → applied g l r ≡ unvalued k) → operated kind l r ≡ unvalued k
-      unfolding operated operated_by covers
-      by_sides l r k a = go (operation_of operations kind) (sym c ∙ h)
-        where
-          go : (x : Option (ℤ → ℤ → meaning.Value)) → covers x ≡ true → operated_by x l r ≡ unvalued k
-          go none h = let z : ◌≡◌ {A = ℕ} 0 1 = cc in absurd (omega arith)
-          go (some g) h = a g
-          -- and its left side is refused
+      unfolding operated operated_by
+      by_sides l r k a = let g = operation_is x in rw (← c, g.1) (a g.0)
 
+      -- and its left side is refused
       pub left_refused : (k : ℕ) → unvalued k ≡ value_of (expr_at (d - 1) s (at + 1)) → unvalued k ≡ value_of (expr_at d s at)
       unfolding applied
       left_refused k h =
@@ -147,10 +141,8 @@ module _ {d at : ℕ} {s : List ℕ} {f : Form} (o : Opened d at s f) (r : Reads
 
     -- both sides have a value; these have come back from their bits
     module _ (x y : ℤ) (m end : ℕ) (i : SFits w64 x) (h : SFits w64 y) (l : Evaluates (d - 1) s (at + 1) (Ok (x, m))) (k : Evaluates (d - 1) s m (Ok (y, end))) where
-      pub both_valued : operated kind (valued (back x)) (valued (back y)) ≡ value_of (expr_at d s at)
-      both_valued =
-          let c : operated kind (valued (back x)) (valued (back y)) ≡ operated kind (valued x) (valued y) = rw (to_z-of_z w64 x i, to_z-of_z w64 y h) refl in
-          c ∙ sym (binary_is m l.1 ∙ rw (← l.0, ← k.0) refl)
+      pub both_valued : (j : ℕ) → j ≡ kind → operated j (valued (back x)) (valued (back y)) ≡ value_of (expr_at d s at)
+      both_valued j e = sym (binary_is m l.1 ∙ rw (← l.0, ← k.0, to_z-of_z w64 x i, to_z-of_z w64 y h, e) refl)
 
       pub both_end : Ok end ≡ step_of (read_expr d s at)
       both_end = k.1 ∙ sym (binary_ends o m p l.1)

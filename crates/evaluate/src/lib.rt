@@ -41,7 +41,10 @@ fn value_at(s: &[u8], at: usize, depth: usize) -> Result<(i64, usize), Refusal>
     match form {
         ExprForm::Literal(w) => {
             let width = usize::from(w);
-            let value = values::literal_value(kind, number_at(s, at + 1, width))?;
+            let Some(literal) = values::literal_of(kind) else {
+                return Err(Refusal::NotCovered);
+            };
+            let value = values::literal_value(literal, number_at(s, at + 1, width))?;
             Ok((value, at + 1 + width))
         }
         ExprForm::Binary => binary_at(s, at, depth),
@@ -55,13 +58,12 @@ fn binary_at(s: &[u8], at: usize, depth: usize) -> Result<(i64, usize), Refusal>
     requires { Reads (read_expr depth s.now at) × (form_of (get_or s.now at 0) ≡ OfExpr Binary) }
     ensures { Evaluates depth s.now at result }
 {
-    let kind = s[at];
-    if !values::covered(kind) {
+    let Some(operation) = values::operation_of(s[at]) else {
         return Err(Refusal::NotCovered);
-    }
+    };
     let (l, next) = value_at(s, at + 1, depth - 1)?;
     let (r, end) = value_at(s, next, depth - 1)?;
-    let value = values::operate(kind, l, r)?;
+    let value = values::operate(operation, l, r)?;
     Ok((value, end))
 }
 

@@ -1,6 +1,6 @@
 -- Multiples, offsets and powers of two, in the form in which the code returns them.
-use Prim.Native.Nat.{ℕ, zero, suc, ◌+◌, ◌-◌, ◌*◌, ◌/◌, ◌%◌, ◌^◌, ◌≤◌, ◌<◌, max}
-use native.Mathlib.Nat.{pow-suc, pow-le-pow_right, max_comm, max-le, le-max_left, mod_self, mod-eq_of_lt}
+use Prim.Native.Nat.{ℕ, zero, suc, ◌+◌, ◌-◌, ◌*◌, ◌/◌, ◌%◌, ◌^◌, ◌≤◌, ◌<◌}
+use native.Mathlib.Nat.{pow-suc, pow-le-pow_right, mod_self, mod-eq_of_lt}
 use native.Mathlib.Omega.{arith}
 use mathlib.Core.Bool.{Bool, true, false, cond, ◌||◌}
 use mathlib.Core.Path.{◌≡◌, refl, sym, ap, ◌∙◌}
@@ -11,8 +11,7 @@ use Rattle.std.specs.Int.{next_multiple_of, is_power_of_two}
 use Rattle.std.proofs.lemmas.Nat.{zero_from_ones}
 use Rattle.meaning.specs.Lists.{any}
 use Rattle.meaning.specs.Circle.{numbers_below}
-use Rattle.fixed_meaning.specs.Extent.{round_up, offset_of, is_alignment, alignment_of}
-use Rattle.extents.specs.Meant.{attributes}
+use Rattle.fixed_meaning.specs.Extent.{round_up, is_alignment}
 
 -- the next multiple
 pub next_is : (n a : ℕ) → 0 < a → next_multiple_of n a ≡ round_up n a
@@ -22,15 +21,6 @@ next_is n a h = go (eqb (n % a) 0) refl
     go : (t : Bool) → eqb (n % a) 0 ≡ t → next_multiple_of n a ≡ cond (eqb (n % a) 0) n (n + (a - n % a))
     go true e = let z : n % a ≡ 0 = eqb-true (n % a) 0 e in let s : a - 0 ≡ a = omega arith in rw (e, z, s, mod_self a) (omega arith)
     go false e = rw e (ap (n +◌) (mod-eq_of_lt (omega (arith, eqb-false (n % a) 0 e, h))))
-
--- an offset
-pub offset_packed : (packed end a : ℕ) → packed ≡ 1 → end ≡ offset_of packed end a
-unfolding offset_of
-offset_packed packed end a e = rw (eq-eqb packed 1 e)
-
-pub offset_next : (packed end a : ℕ) → (packed ≡ 1 → ⊥) → 0 < a → next_multiple_of end a ≡ offset_of packed end a
-unfolding offset_of
-offset_next packed end a e h = rw (ne_eqb packed 1 e) (next_is end a h)
 
 -- a test of the numbers below j
 module _ (p : ℕ → Bool) where
@@ -112,21 +102,3 @@ alignment_most n e = go (eqb n 0) refl
         let f = any_found (λ k. eqb n (2 ^ k)) 64 (sym (ap (λ t. t || any (λ k. eqb n (2 ^ k)) (numbers_below 64)) q) ∙ sym e) in
         let p : 2 ^ f.0 ≤ 2 ^ 63 = pow-le-pow_right {n = 2} (omega arith) {i = f.0} {j = 63} (omega (arith, f.1.0)) in
         omega (arith, eqb-true n (2 ^ f.0) f.1.1, p)
-
--- the alignment
-pub alignment_packed : (packed aligned most m : ℕ) → packed ≡ 1 → m ≡ max aligned 1 → m ≡ alignment_of (attributes packed aligned) most
-unfolding alignment_of
-alignment_packed packed aligned most m e w = rw (eq-eqb packed 1 e) (w ∙ max_comm aligned 1)
-
-pub alignment_natural : (packed aligned most m : ℕ) → (packed ≡ 1 → ⊥) → m ≡ max most aligned → m ≡ alignment_of (attributes packed aligned) most
-unfolding alignment_of
-alignment_natural packed aligned most m e w = rw (ne_eqb packed 1 e) w
-
-pub alignment_fits : (packed aligned most : ℕ) → aligned ≤ 9223372036854775808 → (0 < most) × (most ≤ 9223372036854775808)
-    → (0 < alignment_of (attributes packed aligned) most) × (alignment_of (attributes packed aligned) most ≤ 9223372036854775808)
-unfolding alignment_of
-alignment_fits packed aligned most h g = go (eqb packed 1) refl
-  where
-    go : (t : Bool) → eqb packed 1 ≡ t → (0 < alignment_of (attributes packed aligned) most) × (alignment_of (attributes packed aligned) most ≤ 9223372036854775808)
-    go true e = rw e (omega (arith, le-max_left 1 aligned), max-le (omega arith) h)
-    go false e = rw e (omega (arith, le-max_left most aligned, g.0), max-le g.1 h)

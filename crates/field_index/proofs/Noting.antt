@@ -13,7 +13,7 @@ use lib.Seq.{get_or-set_same, get_or-set_other}
 use Rattle.meaning.specs.Tree.{Member}
 use Rattle.table.specs.Table.{grown, Within}
 use Rattle.tree.specs.Tree.{number_at, Tree, Entered}
-use Rattle.tree.proofs.Searching.{same_place}
+use Rattle.tree.specs.Facts.{same_place}
 use Rattle.tree.proofs.Growing.{tree_same}
 use Rattle.field_index.specs.Noted.{field_name, tree_at, IsFirst, IsLast, HasName, NotedTo}
 

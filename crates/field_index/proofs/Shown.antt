@@ -17,7 +17,7 @@ use Rattle.meaning.specs.Lookup.{member_name, member_type, as_type_ref}
 use Rattle.bundle.specs.Definitions.{bundle_of}
 use Rattle.tree.specs.Tree.{PlaceOf}
 use Rattle.fields.specs.Sought.{named}
-use Rattle.field_index.specs.Noted.{field_name, tree_at, NotedPart, index_shown, NotedOf, lead_shown, leads_of, lead_is, leads_at, LeadsTo, LastIn, part_start, fields_at, FieldsNoted}
+use Rattle.field_index.specs.Noted.{field_name, tree_at, NotedPart, index_shown, IndicesOf, lead_shown, leads_of, lead_is, leads_at, LeadsTo, LastIn, part_start, fields_at, FieldsNoted}
 
 -- no field has the name
 abbrev Lacks : List Member → ℕ → Type 0
@@ -53,28 +53,24 @@ module _ (x : ℕ) where
       rw (ne_eqb x (member_name m) (λ q. lacks 0 (omega arith) (sym q)), first_at ms f (omega arith) e (λ i c. lacks (suc i) (suc-le-suc c))) refl
 
 -- the place of a name among those of a part
-module _ {notes : List ℕ} {a n d : ℕ} (x : ℕ) (ms : List Member) (p : NotedPart ms notes a) (count : get_or notes a 0 ≡ n) (names : get_or notes (a + 1) 0 ≡ d) where
-  the_count : length ms ≡ n
-  the_count = sym p.count ∙ count
+module _ {notes : List ℕ} {a : ℕ} (x : ℕ) (ms : List Member) (p : NotedPart ms notes a) where
+  -- how many fields there are
+  abbrev n : ℕ
+  n = get_or notes a 0
 
-  pub shown_none : PlaceOf notes (tree_at a n) d x None → NotedOf ms notes x None
+  pub shown_none : PlaceOf notes (tree_at a n) (get_or notes (a + 1) 0) x None → IndicesOf ms x None
   shown_none q = (first_none x ms lacks, last_none member_name x ms lacks)
     where
-      same_place : (k : ℕ) → get_or notes (tree_at a n + 3 * k) 0 ≡ get_or notes (tree_at a (length ms) + 3 * k) 0
-      same_place k = ap (λ n. get_or notes (tree_at a n + 3 * k) 0) (sym the_count)
-
       lacks : Lacks ms x
-      lacks i l e = let h = p.all.all i l in q.place h.0 (omega (arith, h.1, names)) (same_place h.0 ∙ h.2 ∙ e)
+      lacks i l e = let h = p.all.all i l in q.place h.0 h.1 (ap (λ n. get_or notes (tree_at a n + 3 * h.0) 0) p.count ∙ h.2 ∙ e)
 
-  pub shown_at : {r : ℕ} → PlaceOf notes (tree_at a n) d x (Some r) → NotedOf ms notes x (Some (record { first = a + 2 + r; last = a + 2 + n + r }))
+  pub shown_at : {r : ℕ} → PlaceOf notes (tree_at a n) (get_or notes (a + 1) 0) x (Some r) → IndicesOf ms x (Some (record { first = get_or notes (a + 2 + r) 0; last = get_or notes (a + 2 + n + r) 0 }))
   shown_at {r} q =
-      let there : r < get_or notes (a + 1) 0 = omega (arith, names, q.place.within) in
-      let is : get_or notes (tree_at a (length ms) + 3 * r) 0 ≡ x = ap (λ n. get_or notes (tree_at a n + 3 * r) 0) the_count ∙ q.place.here in
-      let f = p.all.firsts r there in
-      let l = p.all.lasts r there in (
-        (omega (arith, there, p.all.few, p.room), first_at x ms (get_or notes (a + 2 + r) 0) f.below (f.here ∙ is) (λ i c e. f.none i c (e ∙ sym is))),
-        omega (arith, there, p.all.few, p.room, the_count),
-        rw (← the_count) (last_at member_name x ms (get_or notes (a + 2 + length ms + r) 0) l.below (l.here ∙ is) (λ i c k e. l.none i c k (e ∙ sym is))),
+      let is : get_or notes (tree_at a (length ms) + 3 * r) 0 ≡ x = ap (λ n. get_or notes (tree_at a n + 3 * r) 0) (sym p.count) ∙ q.place.here in
+      let f = p.all.firsts r q.place.within in
+      let l = p.all.lasts r q.place.within in (
+        first_at x ms (get_or notes (a + 2 + r) 0) f.below (f.here ∙ is) (λ i c e. f.none i c (e ∙ sym is)),
+        rw p.count (last_at member_name x ms (get_or notes (a + 2 + length ms + r) 0) l.below (l.here ∙ is) (λ i c k e. l.none i c k (e ∙ sym is))),
       )
 
 -- the last field that leads where x says

@@ -11,7 +11,7 @@ use Rattle.meaning.specs.Sizes.{is_enum_with_constant_size_variants}
 use Rattle.bundle.specs.Definitions.{type_at, bundle_of, places_end}
 use Rattle.sizes.specs.Scan.{references_from}
 use Rattle.tree.specs.Tree.{Tree, number_at}
-use Rattle.field_index.specs.declared.Noted.{Noted}
+use Rattle.field_index.specs.declared.Indices.{Indices}
 use Rattle.fields.specs.Sought.{named}
 
 -- the name of field k
@@ -93,12 +93,10 @@ abbrev pub index_shown : option.Option ℕ → Option ℕ
 index_shown option.none = None
 index_shown (option.some i) = Some i
 
--- at these places stand the indices of the first and the last of the fields ms that have the name x; None where no field has it
-abbrev pub NotedOf : List Member → List ℕ → ℕ → Option Noted → Type 0
-NotedOf ms notes x None = (first_index (named x) ms ≡ option.none) × (last_index (named x) ms ≡ option.none)
-NotedOf ms notes x (Some p) =
-    ((p.first < length notes) × (first_index (named x) ms ≡ option.some (get_or notes p.first 0)))
-    × (p.last < length notes) × (last_index (named x) ms ≡ option.some (get_or notes p.last 0))
+-- the indices of the first and the last of the fields ms that have the name x; None where no field has it
+abbrev pub IndicesOf : List Member → ℕ → Option Indices → Type 0
+IndicesOf ms x None = (first_index (named x) ms ≡ option.none) × (last_index (named x) ms ≡ option.none)
+IndicesOf ms x (Some p) = (first_index (named x) ms ≡ option.some p.first) × (last_index (named x) ms ≡ option.some p.last)
 
 -- the fields of a type, none where it is no struct
 abbrev pub struct_fields : Ty → List Member

@@ -4,20 +4,22 @@
 // A part has the count of fields and the count of their names, then for each name the index of the first field that has it, then for each
 // the index of the last, then a tree of the names, then for each field where its type leads. All of it is numbers of 16 bits in the one
 // lent array, 0 where there is none: no heap, fixed memory.
+//
+// What is noted is written behind the places of the definitions: a struct that has them and their fact would be made anew after each write,
+// so functions that note have the fact in their clauses, and make `Definitions` for a look-up alone.
 #![tactic(auto)]
 
 ghost use Rattle.std.specs.Prelude.{◌≡◌, IfSome, List, ◌+◌, ◌*◌, ◌≤◌, ◌<◌, length, get_or};
-ghost use Rattle.meaning.specs.Lists.{first_index, last_index};
+ghost use Rattle.meaning.specs.Lists.{last_index};
 ghost use Rattle.meaning.specs.Lookup.{list_of, as_type_ref};
 ghost use Rattle.meaning.specs.Tree.{Member};
 ghost use Rattle.meaning.specs.ReadType.{read_ty, read_members};
 ghost use Rattle.bundle.specs.View.{Reads};
 ghost use Rattle.bundle.specs.Definitions.{type_at, members_at, bundle_of, Table};
-ghost use Rattle.fields.specs.Sought.{named};
 ghost use Rattle.table.specs.Table.{Within};
-ghost use Rattle.tree.specs.Tree.{Tree};
-ghost use Rattle.field_index.specs.Noted.{field_name, tree_at, parts_at, part_start, HasNotes, NotedTo, NotedPart, NotedFor, index_shown, NotedOf, lead_shown, leads_of, LeadsTo, lead_is, LastIn, fields_at, ConstantsNoted, FieldsNoted, NotedBelow, Front};
+ghost use Rattle.field_index.specs.Noted.{field_name, parts_at, part_start, HasNotes, NotedTo, NotedPart, NotedFor, index_shown, IndicesOf, lead_shown, leads_of, LeadsTo, lead_is, LastIn, fields_at, ConstantsNoted, FieldsNoted, NotedBelow, Front};
 
+use bundle::Definitions;
 use fields::Shape;
 
 // Where it stands for each definition whether it is an enum with variants of constant size.
@@ -61,22 +63,23 @@ fn note_name(notes: &mut [u16], a: usize, n: usize, d: usize, k: usize, x: u16) 
 
 // One more than the number of the first definition of the name to which the type at `at`, a TypeRef, leads, or than the count of definitions
 // where the name has none; 0 for other types. It is no `Option` since it is noted so: its place has 16 bits.
-fn lead_at(s: &[u8], places: &[u16], count: usize, at: usize) -> usize
-    requires { Table s.now count places.now × Reads (read_ty 23 s.now at) }
-    ensures { (result ≡ lead_shown (bundle_of s.now) (as_type_ref (type_at 23 s.now at))) × (result ≤ 257) }
+fn lead_at(definitions: &Definitions<'_>, at: usize) -> usize
+    requires { Reads (read_ty 23 definitions.now.bytes.now at) }
+    ensures { (result ≡ lead_shown (bundle_of definitions.now.bytes.now) (as_type_ref (type_at 23 definitions.now.bytes.now at))) × (result ≤ 257) }
 {
-    let shape = fields::shape_at(s, at, bundle::DEPTH_INSIDE);
+    let shape = fields::shape_at(definitions.bytes, at, bundle::DEPTH_INSIDE);
     let Shape::TypeRef(x) = shape else {
         return 0;
     };
-    lookup::definition_of(s, places, count, x).unwrap_or(count) + 1
+    lookup::definition_of(definitions, x).unwrap_or(definitions.count) + 1
 }
 
-// Notes the `n` fields that were read at `at` in the part at `a`.
-fn note_fields(s: &[u8], count: usize, at: usize, n: usize, notes: &mut [u16], a: usize)
+// Notes the `n` fields that were read at `at` in the part at `a`. Returns where the part ends.
+fn note_fields(s: &[u8], count: usize, at: usize, n: usize, notes: &mut [u16], a: usize) -> usize
     requires table { Table s.now count notes.old × Reads (read_members (read_ty 23) 0x50 n s.now at) }
     requires n_nonzero { (0 < n) × (parts_at ≤ a) × (a + 2 + 6 * n ≤ length notes.old) × (a + 2 + 6 * n < 65536) }
-    ensures { NotedPart (list_of (members_at 23 0x50 n s.now at)) notes.new a × LeadsTo (leads_of (bundle_of s.now) (list_of (members_at 23 0x50 n s.now at))) notes.new a n n × Within a (a + 2 + 6 * n) notes.old notes.new }
+    ensures noted { NotedPart (list_of (members_at 23 0x50 n s.now at)) notes.new a × LeadsTo (leads_of (bundle_of s.now) (list_of (members_at 23 0x50 n s.now at))) notes.new a n n × Within a (a + 2 + 6 * n) notes.old notes.new }
+    ensures ends { result ≡ a + 2 + 6 * n }
 {
     notes[a] = n as u16;
     let mut next = at;
@@ -84,11 +87,17 @@ fn note_fields(s: &[u8], count: usize, at: usize, n: usize, notes: &mut [u16], a
     for k in 0..n {
         let field = fields::field_at(s, next, bundle::DEPTH_INSIDE);
         d = note_name(notes, a, n, d, k, field.name);
-        let lead = lead_at(s, notes, count, field.at);
+        let definitions = Definitions {
+            bytes: s,
+            places: &*notes,
+            count,
+        };
+        let lead = lead_at(&definitions, field.at);
         notes[a + 2 + 5 * n + k] = lead as u16;
         next = field.next;
     }
     notes[a + 1] = d as u16;
+    a + 2 + 6 * n
 }
 
 // Notes the fields of definition `i`, if it is a struct with fields, behind the first `used` places. Returns how many are used then.
@@ -106,8 +115,7 @@ fn note_struct(s: &[u8], places: &mut [u16], count: usize, i: usize, used: usize
         return used;
     }
     places[STARTS_AT + i] = used as u16;
-    note_fields(s, count, at + 12, n, places, used);
-    used + 2 + 6 * n
+    note_fields(s, count, at + 12, n, places, used)
 }
 
 // Notes the fields of every struct. What stands behind the places for the constants before is free. Returns how many places are used.
@@ -123,29 +131,18 @@ pub fn note_structs(s: &[u8], places: &mut [u16], count: usize) -> usize
     used
 }
 
-// Where it stands which field is the first that has a name, and which is the last.
+// The index of the first field that has a name, and of the last.
 #[derive(Clone, Copy)]
-struct Noted {
-    first: usize,
-    last: usize,
+pub struct Indices {
+    pub first: u16,
+    pub last: u16,
 }
 
-// Where that of the name `x` stands in the part at `a` of `n` fields with `d` names, if a field has it.
-fn noted_in(notes: &[u16], a: usize, n: usize, d: usize, x: u16) -> Option<Noted>
-    requires { (a + 2 + 5 * n ≤ length notes.now) × (d ≤ n) × Tree notes.now (tree_at a n) d }
-    ensures { (ms : List Member) → NotedPart ms notes.now a → get_or notes.now a 0 ≡ n → get_or notes.now (a + 1) 0 ≡ d → NotedOf ms notes.now x result }
-{
-    let r = tree::place_of(notes, a + 2 + 2 * n, d, x)?;
-    Some(Noted {
-        first: a + 2 + r,
-        last: a + 2 + n + r,
-    })
-}
-
-// The same of definition `i`.
-fn noted_of(places: &[u16], i: usize, x: u16) -> Option<Noted>
+// Those of the fields of definition `i` that have the name `x`, if one has it.
+pub fn indices_of(places: &[u16], i: usize, x: u16) -> Option<Indices>
     requires { HasNotes places.now i }
-    ensures { (ms : List Member) → NotedFor ms places.now (part_start places.now i) → NotedOf ms places.now x result }
+    ensures of { (ms : List Member) → NotedFor ms places.now (part_start places.now i) → IndicesOf ms x result }
+    ensures small { IfSome result (λ p. p.first < 65535) }
 {
     let a = places[STARTS_AT + i] as usize;
     if a == 0 {
@@ -153,25 +150,11 @@ fn noted_of(places: &[u16], i: usize, x: u16) -> Option<Noted>
     }
     let n = places[a] as usize;
     let d = places[a + 1] as usize;
-    noted_in(places, a, n, d, x)
-}
-
-// The index of the first field of definition `i` that has the name `x`, if one has it.
-pub fn first_index_of(places: &[u16], i: usize, x: u16) -> Option<usize>
-    requires { HasNotes places.now i }
-    ensures { (ms : List Member) → NotedFor ms places.now (part_start places.now i) → result ≡ index_shown (first_index (named x) ms) }
-{
-    let noted = noted_of(places, i, x)?;
-    Some(places[noted.first] as usize)
-}
-
-// The index of the last field of definition `i` that has the name `x`, if one has it.
-pub fn last_index_of(places: &[u16], i: usize, x: u16) -> Option<usize>
-    requires { HasNotes places.now i }
-    ensures { (ms : List Member) → NotedFor ms places.now (part_start places.now i) → result ≡ index_shown (last_index (named x) ms) }
-{
-    let noted = noted_of(places, i, x)?;
-    Some(places[noted.last] as usize)
+    let r = tree::place_of(places, a + 2 + 2 * n, d, x)?;
+    Some(Indices {
+        first: places[a + 2 + r],
+        last: places[a + 2 + n + r],
+    })
 }
 
 // Which is the last of the `n` places at `at` that hold `x`, if one does.
@@ -188,10 +171,11 @@ fn last_in(t: &[u16], at: usize, n: usize, x: usize) -> Option<usize>
 }
 
 // The index of the last field of definition `i` that leads where `lead` says, as that is noted, if there is one.
-pub fn last_lead(s: &[u8], places: &[u16], count: usize, i: usize, lead: usize) -> Option<usize>
-    requires { Table s.now count places.now × FieldsNoted s.now places.now count × (i < count) }
-    ensures { (result ≡ index_shown (last_index (lead_is (bundle_of s.now) lead) (fields_at s.now places.now i))) × IfSome result (λ k. 4 * (k + 1) ≤ length s.now) }
+pub fn last_lead(definitions: &Definitions<'_>, i: usize, lead: usize) -> Option<usize>
+    requires { FieldsNoted definitions.now.bytes.now definitions.now.places.now definitions.now.count × (i < definitions.now.count) }
+    ensures { (result ≡ index_shown (last_index (lead_is (bundle_of definitions.now.bytes.now) lead) (fields_at definitions.now.bytes.now definitions.now.places.now i))) × IfSome result (λ k. 4 * (k + 1) ≤ length definitions.now.bytes.now) }
 {
+    let places = definitions.places;
     let a = places[STARTS_AT + i] as usize;
     if a == 0 {
         return None;

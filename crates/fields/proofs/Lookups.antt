@@ -1,22 +1,15 @@
 -- A first definition that was found, with its place; the fields of a struct so found, and their order.
-use Prim.Native.Nat.{ℕ, suc, ◌≤◌, ◌<◌}
-use native.Mathlib.Decide.{dec_lt}
-use mathlib.Core.Logic.{by_cases}
+use Prim.Native.Nat.{ℕ, ◌≤◌, ◌<◌}
 use native.Mathlib.Omega.{arith}
-use mathlib.Core.Bool.{false}
-use mathlib.Core.Option.{Option, none, some}
-use mathlib.Core.Path.{◌≡◌, refl, sym, ◌∙◌}
+use mathlib.Core.Option.{none}
+use mathlib.Core.Path.{◌≡◌, refl}
 use mathlib.Core.List.{List}
-use lib.Dec.{ltb}
 use lib.ListN.{get_or}
-use borrow.Author.Tests.{lt-ltb, le-ltb}
-use Rattle.meaning.specs.Lists.{precedes}
 use Rattle.meaning.specs.Lookup.{count, definition_of, find_type}
 use Rattle.meaning.specs.Violations.{struct_of}
 use Rattle.bundle.specs.Definitions.{bundle_of, Table}
 use Rattle.bundle.proofs.LookupLaws.{placed_at, found_type, found_none}
 use Rattle.fields.specs.Shapes.{DefinitionIs}
-use Rattle.fields.specs.Sought.{shown}
 
 -- what a search for the first definition of a name found, with its place
 pub defined : {s : List ℕ} {n : ℕ} {places : List ℕ} → Table s n places → {x i : ℕ} → (i ≡ definition_of (bundle_of s) x) × (i < count (bundle_of s)) → DefinitionIs s n x i (get_or places i 0)
@@ -30,15 +23,3 @@ undefined t x h = found_none t _ x refl (omega (arith, h, t.count))
 pub struct_none : (s : List ℕ) (x : ℕ) → find_type (bundle_of s) x ≡ none → struct_of (bundle_of s) x ≡ none
 unfolding struct_of
 struct_none s x e = rw e
-
--- an index before another, as they are shown
-pub precedes_zero : (o p : Option ℕ) → shown o ≡ 0 → false ≡ precedes o p
-precedes_zero none p e = refl
-precedes_zero (some i) p e = absurd (omega arith)
-
-pub precedes_shown : (o p : Option ℕ) → (shown o ≡ 0 → ⊥) → ltb (shown o) (shown p) ≡ precedes o p
-precedes_shown none p ne = absurd (ne refl)
-precedes_shown (some i) none ne = le-ltb (suc i) 0 (omega arith)
-precedes_shown (some i) (some j) ne =
-    by_cases (dec_lt i j) (λ (h : i < j). lt-ltb (suc i) (suc j) (omega arith) ∙ sym (lt-ltb i j h))
-    (λ (h : ¬ (i < j)). le-ltb (suc i) (suc j) (omega arith) ∙ sym (le-ltb i j (omega arith)))

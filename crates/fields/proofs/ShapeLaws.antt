@@ -72,7 +72,7 @@ module _ {d at : ℕ} {s : List ℕ} {f : Form} (o : Opened d at s f) (r : Reads
         inside = omega (arith, g.parts.start, g.parts.bound);
       }
 
-  pub array_is : f ≡ OfType Array → ArrayAt d s at (get_or s (at + 10) 0)
+  pub array_is : f ≡ OfType Array → ArrayAt d s at
   array_is p =
       let g = array_at o r p in
       record {
@@ -83,7 +83,6 @@ module _ {d at : ℕ} {s : List ℕ} {f : Form} (o : Opened d at s f) (r : Reads
         tree =
             subst (λ i. type_at d s at ≡ array g.parts.attributes (get_or s (at + 10) 0) (expr_at (d - 1) s i) (type_at (d - 1) s g.j)) g.parts.start
             g.parts.tree;
-        byte = refl;
         inside = omega (arith, g.parts.start, g.parts.bound);
       }
 
@@ -152,14 +151,14 @@ plain_ref (size_union a ms) e = refl
 pub shape_ref : (d at : ℕ) (s : List ℕ) (r : Shape) → ShapeOf d s at r → as_type_ref (type_at d s at) ≡ ref_shown r
 shape_ref d at s (shape.Struct n) g = rw g.tree
 shape_ref d at s shape.Enum g = rw g.tree
-shape_ref d at s (shape.Array jagged) g = rw g.tree
+shape_ref d at s shape.Array g = rw g.tree
 shape_ref d at s (shape.TypeRef n) g = rw g
 shape_ref d at s shape.Plain g = plain_ref (type_at d s at) g
 
 pub no_ref : (d at : ℕ) (s : List ℕ) (r : Shape) → ((n : ℕ) → r ≡ shape.TypeRef n → ⊥) → ShapeOf d s at r → as_type_ref (type_at d s at) ≡ none
 no_ref d at s (shape.Struct n) o g = shape_ref d at s (shape.Struct n) g
 no_ref d at s shape.Enum o g = shape_ref d at s shape.Enum g
-no_ref d at s (shape.Array jagged) o g = shape_ref d at s (shape.Array jagged) g
+no_ref d at s shape.Array o g = shape_ref d at s shape.Array g
 no_ref d at s (shape.TypeRef n) o g = absurd (o n refl)
 no_ref d at s shape.Plain o g = shape_ref d at s shape.Plain g
 
@@ -176,7 +175,7 @@ plain_struct (size_union a ms) e = refl
 pub shape_other : (d at : ℕ) (s : List ℕ) (r : Shape) → ((n : ℕ) → r ≡ shape.Struct n → ⊥) → ShapeOf d s at r → as_struct (type_at d s at) ≡ none
 shape_other d at s (shape.Struct n) o g = absurd (o n refl)
 shape_other d at s shape.Enum o g = rw g.tree
-shape_other d at s (shape.Array jagged) o g = rw g.tree
+shape_other d at s shape.Array o g = rw g.tree
 shape_other d at s (shape.TypeRef n) o g = rw g
 shape_other d at s shape.Plain o g = plain_struct (type_at d s at) g
 

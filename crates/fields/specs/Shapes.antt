@@ -32,13 +32,12 @@ pub record EnumAt (d : ℕ) (s : List ℕ) (at : ℕ) : Type 0 where
   pub inside : at + 12 ≤ length s
 
 -- an array, whose size starts behind its body and whose element starts at `element`
-pub record ArrayAt (d : ℕ) (s : List ℕ) (at jagged : ℕ) : Type 0 where
+pub record ArrayAt (d : ℕ) (s : List ℕ) (at : ℕ) : Type 0 where
   pub attributes : Attributes
   pub element : ℕ
   pub size : Ok element ≡ step_of (read_expr (d - 1) s (at + 11))
   pub reads : Reads (read_ty (d - 1) s element)
-  pub tree : type_at d s at ≡ array attributes jagged (expr_at (d - 1) s (at + 11)) (type_at (d - 1) s element)
-  pub byte : jagged ≡ get_or s (at + 10) 0
+  pub tree : type_at d s at ≡ array attributes (get_or s (at + 10) 0) (expr_at (d - 1) s (at + 11)) (type_at (d - 1) s element)
   pub inside : at + 11 ≤ length s
 
 -- a primitive, a union or a size-discriminated union
@@ -55,7 +54,7 @@ is_plain (size_union a ms) = true
 abbrev pub ShapeOf : ℕ → List ℕ → ℕ → Shape → Type 0
 ShapeOf d s at (shape.Struct n) = StructAt d s at n
 ShapeOf d s at shape.Enum = EnumAt d s at
-ShapeOf d s at (shape.Array jagged) = ArrayAt d s at jagged
+ShapeOf d s at shape.Array = ArrayAt d s at
 ShapeOf d s at (shape.TypeRef n) = type_at d s at ≡ type_ref n
 ShapeOf d s at shape.Plain = is_plain (type_at d s at) ≡ true
 
@@ -63,7 +62,7 @@ ShapeOf d s at shape.Plain = is_plain (type_at d s at) ≡ true
 abbrev pub ref_shown : Shape → Option ℕ
 ref_shown (shape.Struct n) = none
 ref_shown shape.Enum = none
-ref_shown (shape.Array jagged) = none
+ref_shown shape.Array = none
 ref_shown (shape.TypeRef n) = some n
 ref_shown shape.Plain = none
 

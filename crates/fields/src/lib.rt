@@ -4,17 +4,16 @@
 ghost use Rattle.std.specs.Prelude.{Ok, ◌≡◌, ◌<◌, get_or};
 ghost use Rattle.meaning.specs.ReadType.{read_ty, read_member};
 ghost use Rattle.bundle.specs.View.{Reads, step_of};
-ghost use Rattle.bundle.specs.Definitions.{Table};
 ghost use Rattle.fields.specs.Shapes.{ShapeOf, FieldAt, PlacedAt};
 
-use bundle::{Form, TypeForm};
+use bundle::{Definitions, Form, TypeForm};
 
-// What a type's kind byte and body say: the count of a struct's fields, an array's jagged byte, a TypeRef's name.
+// What a type's kind byte and body say: the count of a struct's fields, a TypeRef's name.
 #[derive(Clone, Copy)]
 pub enum Shape {
     Struct(usize),
     Enum,
-    Array(u8),
+    Array,
     TypeRef(u16),
     Plain,
 }
@@ -35,6 +34,7 @@ pub struct Place {
 }
 
 // The shape of the type that was read at `at`.
+#[tactic(auto, using(bundle::proofs::TypeTrees::type_there))]
 pub fn shape_at(s: &[u8], at: usize, depth: usize) -> Shape
     requires { Reads (read_ty depth s.now at) }
     ensures { ShapeOf depth s.now at result }
@@ -51,7 +51,7 @@ pub fn shape_at(s: &[u8], at: usize, depth: usize) -> Shape
         },
         TypeForm::Union => Shape::Plain,
         TypeForm::Enum => Shape::Enum,
-        TypeForm::Array => Shape::Array(s[at + 10]),
+        TypeForm::Array => Shape::Array,
         TypeForm::SizeUnion => Shape::Plain,
     }
 }
@@ -65,6 +65,7 @@ fn read_again(s: &[u8], at: usize, depth: usize) -> usize
 }
 
 // Where the type that was read at `at` ends: a primitive or a TypeRef, as most fields are, behind its own record.
+#[tactic(auto, using(bundle::proofs::TypeTrees::type_there))]
 fn type_end(s: &[u8], at: usize, depth: usize) -> usize
     requires { Reads (read_ty depth s.now at) }
     ensures { Ok result ≡ step_of (read_ty depth s.now at) }
@@ -80,6 +81,7 @@ fn type_end(s: &[u8], at: usize, depth: usize) -> usize
 }
 
 // The field that was read at `at`.
+#[tactic(auto, using(crate::proofs::ShapeLaws::field_there))]
 pub fn field_at(s: &[u8], at: usize, depth: usize) -> Field
     requires { Reads (read_member (read_ty depth) 0x50 s.now at) }
     ensures { FieldAt depth s.now at result }
@@ -93,22 +95,22 @@ pub fn field_at(s: &[u8], at: usize, depth: usize) -> Field
 }
 
 // The name of definition i, and where its type starts.
-pub fn place_of(s: &[u8], places: &[u16], count: usize, i: usize) -> Place
-    requires { Table s.now count places.now × (i < count) }
-    ensures { PlacedAt s.now places.now i result }
+pub fn place_of(definitions: &Definitions<'_>, i: usize) -> Place
+    requires { i < definitions.now.count }
+    ensures { PlacedAt definitions.now.bytes.now definitions.now.places.now i result }
 {
-    let at = places[i] as usize;
+    let at = definitions.places[i] as usize;
     Place {
-        name: bundle::u16_at(s, at - 2),
-        at: at,
+        name: bundle::u16_at(definitions.bytes, at - 2),
+        at,
     }
 }
 
 // Where the type of definition i ends: 3 bytes before the next place.
-pub fn end_of(s: &[u8], places: &[u16], count: usize, i: usize) -> usize
-    requires { Table s.now count places.now × (i < count) }
-    ensures { Ok result ≡ step_of (read_ty 24 s.now (get_or places.now i 0)) }
+pub fn end_of(definitions: &Definitions<'_>, i: usize) -> usize
+    requires { i < definitions.now.count }
+    ensures { Ok result ≡ step_of (read_ty 24 definitions.now.bytes.now (get_or definitions.now.places.now i 0)) }
 {
-    let next = places[i + 1] as usize;
+    let next = definitions.places[i + 1] as usize;
     next - 3
 }

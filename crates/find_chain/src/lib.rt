@@ -10,8 +10,10 @@ use chain::Direction;
 use refusal::Refusal;
 use search_from::Listed;
 
-// The chain over `count` edges that stand in the bytes from `at` on, with so many places for the prepared edges and for the search.
-fn find_in<const EDGES: usize, const WORK: usize>(
+// The chain over `count` edges that stand in the bytes from `at` on, with so many places for the prepared edges and for the search. It
+// stays a function of its own where it is compiled, so that a search over few edges touches no page of the places for many.
+#[inline(never)]
+fn find_in<const EDGES: usize, const NUMBERS: usize>(
     bytes: &[u8],
     at: usize,
     count: usize,
@@ -20,27 +22,16 @@ fn find_in<const EDGES: usize, const WORK: usize>(
     list: &mut [u16],
 ) -> Result<Listed, Refusal>
     requires has_edges { HasEdges bytes.now at count }
-    requires room { (9 * count + 257 ≤ EDGES) × (6 * count + 3 ≤ WORK) × (EDGES ≤ 65536) × (WORK ≤ 65536) }
+    requires room { (9 * count + 257 ≤ EDGES) × (2 * count + 1 ≤ NUMBERS) × (EDGES ≤ 65536) × (NUMBERS ≤ 65536) }
     ensures { Lists (graph_at bytes.now at count) from to list.old list.new result }
 {
     let mut edges = [0u16; EDGES];
-    let mut work = [0u16; WORK];
     chain::prepare(bytes, at, count, Direction::Back, &mut edges);
-    search_from::find(&edges, count, from, to, &mut work, list)
+    search_from::find::<NUMBERS>(&edges, count, from, to, list)
 }
 
-// The chain from `from` to `to` over the edges of a bundle of any length, into the first places of `list`.
-fn chain_long(bytes: &[u8], from: u16, to: u16, list: &mut [u16]) -> Result<Listed, Refusal>
-    ensures { ChainCall from to bytes.now list.old list.new result }
-{
-    let mut places = [0u16; bundle::PLACES];
-    let layout = acceptance::open(bytes, &mut places)?;
-    let at = layout.edges_at;
-    find_in::<{ chain::PLACES }, { search_from::PLACES }>(bytes, at, layout.edges, from, to, list)
-}
-
-// The chain from `from` to `to` over the edges of a bundle, into the first places of `list`. A short bundle with few edges is not worth
-// the clearing of places for many. As `chain_long` is called twice, the compiled code keeps it apart.
+// The chain from `from` to `to` over the edges of a bundle, into the first places of `list`. Few edges are not worth the clearing of places
+// for many.
 pub fn find_layout_dependency_chain(
     bytes: &[u8],
     from: u16,
@@ -49,15 +40,14 @@ pub fn find_layout_dependency_chain(
 ) -> Result<Listed, Refusal>
     ensures { ChainCall from to bytes.now list.old list.new result }
 {
-    if bundle::SHORT_BYTES < bytes.len() {
-        return chain_long(bytes, from, to, list);
-    }
     let mut places = [0u16; bundle::PLACES];
     let layout = acceptance::open(bytes, &mut places)?;
+    let at = layout.edges_at;
     let edges = layout.edges;
     if chain::FEW_EDGES < edges {
-        return chain_long(bytes, from, to, list);
+        return find_in::<{ chain::PLACES }, { search_from::NUMBERS }>(
+            bytes, at, edges, from, to, list,
+        );
     }
-    let at = layout.edges_at;
-    find_in::<{ chain::FEW_PLACES }, { search_from::FEW_PLACES }>(bytes, at, edges, from, to, list)
+    find_in::<{ chain::FEW_PLACES }, { search_from::FEW_NUMBERS }>(bytes, at, edges, from, to, list)
 }

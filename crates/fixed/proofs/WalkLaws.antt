@@ -1,46 +1,52 @@
 -- The answers of the walk that measures the definitions, each in the form in which the code returns it.
-use Rattle.std.specs.Prelude.{Err, Ok, Option, Result}
+use Rattle.std.specs.Prelude.{Err, None, Ok, Option, Result}
+use Rattle.std.proofs.Math.Option as math
 use Rattle.refusal.specs.declared.Refusal.{Refusal}
-use Rattle.refusal.specs.declared.Refusal.TheVariants.{Varies}
-use Prim.Native.Nat.{ℕ, ◌+◌, ◌-◌, ◌*◌, ◌≤◌, ◌<◌}
+use Prim.Native.Nat.{ℕ, ◌+◌, ◌-◌, ◌≤◌, ◌<◌}
 use native.Mathlib.Omega.{arith}
-use mathlib.Core.Bool.{Bool, true, false}
-use borrow.Author.Tests.{lt-ltb, le-ltb}
-use mathlib.Core.Path.{◌≡◌, refl, sym, ap, ap₂, subst, ◌∙◌}
+use mathlib.Core.Bool.{Bool, true, false, cond}
+use borrow.Author.Tests.{lt-ltb, le-ltb, lt-leb, le-leb, eq-eqb, ne_eqb}
+use mathlib.Core.Path.{◌≡◌, refl, sym, ap, ap₂, ◌∙◌}
 use mathlib.Core.List.{List}
-use lib.Dec.{leb}
-use lib.ListN.{get_or}
+use lib.Dec.{eqb, leb}
+use lib.ListN.{length, get_or}
+use Rattle.std.specs.Option.{unwrap_or}
+use Rattle.std.proofs.lemmas.List.{get_or_default}
 use Rattle.meaning.specs.Kinds.{Form, OfType, Primitive, TypeRef, Struct, Union, Enum, Array, SizeUnion}
 use Rattle.meaning.specs.Lookup.{count, definition_of}
 use Rattle.meaning.specs.Reader.{Read, ok, refused, after, due, check, little}
 use Rattle.meaning.specs.ReadExpr.{read_expr, body}
 use Rattle.meaning.specs.ReadType.{Head, Group, head, array_head, member_head, read_member, read_members, read_group, read_enum, read_array, read_ty}
-use Rattle.meaning.specs.Tree.{primitive, struct, union, size_union, none, more}
+use Rattle.meaning.specs.Tree as tree
+use Rattle.meaning.specs.Tree.{Attributes, primitive, struct, union, size_union, none, more}
 use Rattle.meaning.specs.Sizes.{get_primitive_size}
 use Rattle.meaning.proofs.Readings.{went, there}
 use Rattle.bundle.specs.View.{step_of, count_of, Reads, value_or}
-use Rattle.bundle.specs.Definitions.{type_at, members_at, zero_group, bundle_of, Table}
+use Rattle.bundle.specs.Definitions.{type_at, members_at, zero_group, bundle_of}
 use Rattle.bundle.specs.Expressions.{expr_at}
 use Rattle.bundle.proofs.ExprLaws.{Opened}
-use Rattle.bundle.proofs.Steps.{many_none}
-use Rattle.bundle.proofs.TypeLaws.{primitive_ends, group_ends, enum_members, array_element, enum_tag_refused, array_size_refused, type_ref_ends}
-use Rattle.bundle.proofs.TypeTrees.{zero_head, head_last, primitive_tree, type_ref_reads, struct_tree, union_tree, size_union_tree, enum_tree, array_tree, group_value, group_reads, enum_value, array_value_lem, array_last}
+use Rattle.bundle.proofs.Steps.{many_none, many_more}
+use Rattle.bundle.proofs.TypeLaws.{member_type_lem, primitive_ends, group_ends, enum_members, array_element, enum_tag_refused, array_size_refused, type_ref_ends}
+use Rattle.bundle.proofs.TypeTrees.{zero_head, head_last, primitive_tree, type_ref_reads, struct_tree, union_tree, size_union_tree, enum_tree, array_tree, group_value, group_reads, enum_value, array_value_lem, array_last, member_value}
 use Rattle.bundle.proofs.Heads.{body_where, head_where, array_where}
-use Rattle.bundle.proofs.Trees.{first_read, refused_no, ended_reads, ended, then_value, made_value}
-use Rattle.bundle.proofs.PartTrees.{others_read, members_split}
-use Rattle.bundle.proofs.Parts.{others_end, members_none, type_ref_is as typeRef-found}
+use Rattle.bundle.proofs.Trees.{first_read, refused_no, many_first, many_rest, many_value, ended_reads, ended, then_value, made_value}
+use Rattle.bundle.proofs.Parts.{members_none, type_ref_is as typeRef-found}
 use Rattle.fixed_meaning.specs.Extent as meaning
-use Rattle.fixed_meaning.specs.Extent.{sized, largest, closed, array_of}
-use Rattle.fixed_meaning.specs.Fixed.{count_of as sizeCount}
-use Rattle.extents.specs.declared.Extent.{Extent}
-use Rattle.extents.specs.Meant.{extent_meant, count_meant, Part, Open, attributes, join_of, close_of}
+use Rattle.fixed_meaning.specs.Extent.{sized, with_member, varying, closed, array_of}
+use Rattle.fixed_meaning.specs.Fixed.{measure_member, measure_all, count_of as sizeCount}
+use Rattle.extents.specs.declared.extent.Extent.{Extent}
+use Rattle.extents.specs.declared.extent.Members.{Members}
+use Rattle.extents.specs.declared.Unsized.{Unsized}
+use Rattle.extents.specs.declared.Unsized.TheVariants.{Circle, Varies}
+use Rattle.extents.specs.Meant.{extent_meant, members_meant, count_meant, mark, packing_of, attributes}
+use Rattle.extents.proofs.Parts.{with_packing}
 use Rattle.fixed.specs.declared.Measured.{Measured}
-use Rattle.fixed.specs.Kept.{Extents, kept_at, Sound, known}
-use Rattle.fixed.specs.Walk.{part_of, members_of, group_of, IsRead}
+use Rattle.fixed.specs.Kept.{Extents, kept_at, known}
+use Rattle.fixed.specs.Walk.{join_of, close_of, zero_member, part_of, member_of, members_of, group_of, IsRead, TypeMeasured, MemberMeasured}
 
 -- the extent and the end of what is read may be said in another way
-pub is_same : {most : ℕ} {e f : meaning.Extent} {m n : Result ℕ Refusal} {r : Measured} → e ≡ f → m ≡ n → IsRead most e m r → IsRead most f n r
-is_same p q g = record { is = g.is ∙ p; fits = g.fits; ended = g.ended ∙ q }
+pub is_same : {T : Type 0} {meant : Result T Unsized → meaning.Extent} {e f : meaning.Extent} {m n : Result ℕ Refusal} {r : Measured T} → e ≡ f → m ≡ n → IsRead meant e m r → IsRead meant f n r
+is_same p q g = record { is = g.is ∙ p; ended = g.ended ∙ q }
 
 -- where the body of what was read has its last number, and what stands behind it
 counted_there : (s : List ℕ) (at : ℕ) → Reads (head 2 s at) → Ok (little s (at + 9) 2, at + 11) ≡ count_of (head 2 s at)
@@ -128,6 +134,23 @@ module _ (s : List ℕ) (d k b n i : ℕ) (c : Ok (n, i) ≡ count_of (head 2 s 
   pub group_ended : step_of (read_members (read_ty d) k n s i) ≡ step_of (read_group (read_ty d) k s b)
   group_ended = sym (group_ends (read_expr 0) (read_ty d) s b k n i c)
 
+-- the count of an array that varies where it is jagged
+abbrev pub Counts : ℕ → math.Option ℕ → Option ℕ → Type 0
+Counts jagged due y = (x : meaning.Extent) → array_of 0 (count_meant y) x ≡ array_of jagged due x
+
+pub counts_none : (jagged : ℕ) (due : math.Option ℕ) → jagged ≡ 1 → Counts jagged due None
+unfolding array_of count_meant
+counts_none jagged math.none h x = refl
+counts_none jagged (math.some n) h x = rw (eq-eqb jagged 1 h)
+
+pub counts_due : (jagged : ℕ) (due : math.Option ℕ) (y : Option ℕ) → (jagged ≡ 1 → ⊥) → count_meant y ≡ due → Counts jagged due y
+unfolding array_of
+counts_due jagged due y h e x = rw e (go due)
+  where
+    go : (due : math.Option ℕ) → array_of 0 due x ≡ array_of jagged due x
+    go math.none = refl
+    go (math.some n) = rw (ne_eqb jagged 1 h)
+
 -- The extents of a type by its form.
 module _ (s : List ℕ) where
   struct_group : (kept : Extents) (g : Group) → group_of s kept 0x50 g ≡ part_of s kept (struct g.attributes g.members)
@@ -186,91 +209,112 @@ module _ (s : List ℕ) where
 
   -- an array whose size starts at i and ended at e
   module _ (d b i e : ℕ) (c : Ok i ≡ step_of (array_head s b)) (r : Reads (read_array (read_expr d) (read_ty d) s b)) (g : Ok e ≡ step_of (read_expr d s i)) where
-    pub array_group : (kept : Extents) (x : meaning.Extent) → x ≡ part_of s kept (type_at d s e) → (y : Option ℕ) → count_meant y ≡ sizeCount (expr_at d s i)
-        → array_of (get_or s (b + 9) 0) (count_meant y) x ≡ part_of s kept (value_or (primitive 0) (read_array (read_expr d) (read_ty d) s b))
+    pub array_group : (kept : Extents) (x : meaning.Extent) → x ≡ part_of s kept (type_at d s e) → (y : Option ℕ) → Counts (get_or s (b + 9) 0) (sizeCount (expr_at d s i)) y
+        → array_of 0 (count_meant y) x ≡ part_of s kept (value_or (primitive 0) (read_array (read_expr d) (read_ty d) s b))
     unfolding part_of
     array_group kept x p y q =
-        ap₂ (array_of (get_or s (b + 9) 0)) q p
+        q x
+        ∙ ap (array_of (get_or s (b + 9) 0) (sizeCount (expr_at d s i))) p
         ∙ sym (rw (array_value_lem (read_expr d) (read_ty d) s b i c r e g (primitive 0), (array_last s b (ended_reads (array_head s b) i c)).0))
 
     pub array_ended : step_of (read_ty d s e) ≡ step_of (read_array (read_expr d) (read_ty d) s b)
     array_ended = sym (array_element (read_expr d) (read_ty d) s b i e c g)
 
 -- of n members of kind k at `at`, those behind the first `done`, at `next`, are still to be joined to what these have made
-pub record Joining (s : List ℕ) (kept : Extents) (d k packed n at : ℕ) (so : Result Extent Refusal) (next done : ℕ) : Type 0 where
+pub record Joining (s : List ℕ) (kept : Extents) (d k packed n at : ℕ) (so : Result Members Unsized) (next done : ℕ) : Type 0 where
   pub reads : Reads (read_members (read_ty d) k (n - done) s next)
   pub step : step_of (read_members (read_ty d) k (n - done) s next) ≡ step_of (read_members (read_ty d) k n s at)
-  pub join : members_of s kept k packed (members_at d k (n - done) s next) (extent_meant so) ≡ members_of s kept k packed (members_at d k n s at) (sized 0 1)
-  pub fits : Open so
+  pub join : members_of s kept k packed (members_at d k (n - done) s next) (members_meant so) ≡ members_of s kept k packed (members_at d k n s at) (sized 0 1)
 
-pub joining_start : {s : List ℕ} {kept : Extents} {d k packed n at : ℕ} → Reads (read_members (read_ty d) k n s at) → Joining s kept d k packed n at (Ok (record { size = 0; alignment = 1 })) at 0
-unfolding extent_meant
-joining_start {n = n} r =
+pub joining_start : {s : List ℕ} {kept : Extents} {d k packed n at : ℕ} → Reads (read_members (read_ty d) k n s at) → (m : Members) → m.end ≡ 0 → m.alignment ≡ 1 → Joining s kept d k packed n at (Ok m) at 0
+unfolding members_meant
+joining_start {n = n} r m e a =
     let z : n - 0 ≡ n = omega arith in
-    record { reads = rw z r; step = rw z refl; join = rw z refl; fits = (omega arith, (omega arith, omega arith)) }
+    record { reads = rw z r; step = rw z refl; join = rw (z, e, a) refl }
 
-module _ {s : List ℕ} {kept : Extents} {d k packed n at : ℕ} {so : Result Extent Refusal} {next done : ℕ} (t : Joining s kept d k packed n at so next done) where
-  pub joining_end : n ≤ done → IsRead (2 * largest) (members_of s kept k packed (members_at d k n s at) (sized 0 1)) (step_of (read_members (read_ty d) k n s at)) (record { extent = so; end = next })
+module _ {s : List ℕ} {kept : Extents} {d k packed n at : ℕ} {so : Result Members Unsized} {next done : ℕ} (t : Joining s kept d k packed n at so next done) where
+  pub joining_end : n ≤ done → IsRead members_meant (members_of s kept k packed (members_at d k n s at) (sized 0 1)) (step_of (read_members (read_ty d) k n s at)) (record { extent = so; end = next })
   unfolding members_of
   joining_end h =
       let e : n - done ≡ 0 = omega arith in
       record {
         is = sym (rw (members_none d k s (n - done) next e)) ∙ t.join;
-        fits = t.fits;
         ended = sym (many_none more none (read_member (read_ty d) k) s (n - done) next e) ∙ t.step;
       }
 
-  -- the type of the first of them stands at i
-  module _ (h : done < n) (i : ℕ) (e : Ok i ≡ step_of (member_head k s next)) where
+  -- the first of them
+  module _ (h : done < n) where
     some : 0 < n - done
     some = omega arith
 
     one_less : n - (done + 1) ≡ n - done - 1
     one_less = omega arith
 
-    split : (m : ℕ) (g : Ok m ≡ step_of (read_ty d s i)) → members_of s kept k packed (members_at d k (n - done) s next) (extent_meant so) ≡ members_of s kept k packed (members_at d k (n - done - 1) s m) (join_of k packed (extent_meant so) (part_of s kept (type_at d s i)))
-    unfolding members_of part_of
-    split m g = rw (members_split d k s (n - done) next some t.reads i e m g)
+    pub member_read : Reads (read_member (read_ty d) k s next)
+    member_read = many_first more none (read_member (read_ty d) k) s zero_member (n - done) next some t.reads
+
+    module _ (m : ℕ) (e : Ok m ≡ step_of (read_member (read_ty d) k s next)) where
+      pub others_read : Reads (read_members (read_ty d) k (n - done - 1) s m)
+      others_read = many_rest more none (read_member (read_ty d) k) s zero_member (n - done) next m some e t.reads
+
+      pub members_split : members_at d k (n - done) s next ≡ more (value_or zero_member (read_member (read_ty d) k s next)) (members_at d k (n - done - 1) s m)
+      members_split = many_value more none (read_member (read_ty d) k) s zero_member (n - done) next m some e t.reads
 
     -- it is joined
-    pub joining_next : {r : Measured} {so' : Result Extent Refusal} → IsRead largest (part_of s kept (type_at d s i)) (step_of (read_ty d s i)) r
-        → (extent_meant so' ≡ join_of k packed (extent_meant so) (extent_meant r.extent)) × Open so' → Joining s kept d k packed n at so' r.end (done + 1)
+    pub joining_next : {r : Measured Extent} {so' : Result Members Unsized} → MemberMeasured s kept d k next r
+        → members_meant so' ≡ join_of k packed (members_meant so) (extent_meant r.extent) → Joining s kept d k packed n at so' r.end (done + 1)
+    unfolding members_of member_of
     joining_next {r} g j =
         record {
-          reads = rw one_less (others_read d k s (n - done) next some t.reads i e r.end g.ended);
-          step = rw one_less (sym (others_end d k s (n - done) next some t.reads i r.end e g.ended) ∙ t.step);
-          join = rw one_less (ap (members_of s kept k packed (members_at d k (n - done - 1) s r.end)) (j.0 ∙ ap (join_of k packed (extent_meant so)) g.is) ∙ sym (split r.end g.ended) ∙ t.join);
-          fits = j.1;
+          reads = rw one_less (others_read r.end g.ended);
+          step = rw one_less (sym (many_more more none (read_member (read_ty d) k) s (n - done) next r.end some g.ended) ∙ t.step);
+          join = rw (one_less, j, g.is) (sym (ap (λ ms. members_of s kept k packed ms (members_meant so)) (members_split r.end g.ended)) ∙ t.join);
         }
 
+-- a member whose type stands at i
+module _ (s : List ℕ) (kept : Extents) (d k at : ℕ) (r : Reads (read_member (read_ty d) k s at)) where
+  pub member_no : (j : Refusal) → Err j ≡ step_of (member_head k s at) → ⊥
+  unfolding read_member
+  member_no j e = refused_no (member_head k s at) j (first_read s _ (member_head k s at) r) (sym e)
+
+  pub member_is : (i : ℕ) → Ok i ≡ step_of (member_head k s at) → {m : Measured Extent} → TypeMeasured s kept (read_ty d s i) m → MemberMeasured s kept d k at m
+  unfolding part_of member_of
+  member_is i e g = is_same (sym (ap (λ x. measure_member x (known s kept)) (member_value (read_ty d) k s at i e r zero_member (primitive 0)))) (sym (member_type_lem (read_expr 0) (read_ty d) s at k i e)) g
+
+-- members that are joined as the packed byte says
+pub members_packing : (s : List ℕ) (kept : Extents) (k packed : ℕ) (ms : tree.Members) (so : meaning.Extent) → members_of s kept k (mark (packing_of packed)) ms so ≡ members_of s kept k packed ms so
+unfolding members_of join_of
+members_packing s kept k packed ms so = go ms so
+  where
+    one : (so e : meaning.Extent) → join_of k (mark (packing_of packed)) so e ≡ join_of k packed so e
+    one so e = ap (λ x. cond (eqb k 0x50) x (with_member so e)) (with_packing packed so e)
+
+    go : (ms : tree.Members) (so : meaning.Extent) → measure_all (join_of k (mark (packing_of packed))) ms so (known s kept) ≡ measure_all (join_of k packed) ms so (known s kept)
+    go none so = refl
+    go (more m ms) so = go ms _ ∙ ap (λ x. measure_all (join_of k packed) ms x (known s kept)) (one so _)
+
+-- the type that has members of kind k: it is fixed, or varies
+pub fixed_closed : (k : ℕ) (a : Attributes) (e : meaning.Extent) → k ≤ 0x51 → closed a e ≡ close_of k a e
+unfolding close_of
+fixed_closed k a e h = rw (le-leb k 0x51 h)
+
+pub varying_closed : (k : ℕ) (a : Attributes) (e : meaning.Extent) → 0x51 < k → closed a (varying e) ≡ close_of k a e
+unfolding close_of
+varying_closed k a e h = rw (lt-leb k 0x51 h)
+
 -- members of kind k that were closed
-pub closed_same : (k packed aligned : ℕ) {e f : meaning.Extent} {m n : Result ℕ Refusal} {r : Measured} {x : Result Extent Refusal}
-    → (extent_meant x ≡ close_of k (attributes packed aligned) (extent_meant r.extent)) × Part x
-    → IsRead (2 * largest) e m r → close_of k (attributes packed aligned) e ≡ f → m ≡ n
-    → IsRead largest f n (record { extent = x; end = r.end })
-closed_same k packed aligned w g p q = record {
-  is = w.0 ∙ ap (close_of k (attributes packed aligned)) g.is ∙ p;
-  fits = w.1;
-  ended = g.ended ∙ q;
-}
+pub closed_same : (k packed aligned : ℕ) {e f : meaning.Extent} {m n : Result ℕ Refusal} {r : Measured Members} {x : Result Extent Unsized}
+    → extent_meant x ≡ close_of k (attributes packed aligned) (members_meant r.extent)
+    → IsRead members_meant e m r → close_of k (attributes packed aligned) e ≡ f → m ≡ n
+    → IsRead extent_meant f n (record { extent = x; end = r.end })
+closed_same k packed aligned w g p q = record { is = w ∙ ap (close_of k (attributes packed aligned)) g.is ∙ p; ended = g.ended ∙ q }
 
 -- the kept extent of the first definition of the name n
-module _ {s : List ℕ} {total : ℕ} {places : List ℕ} (tb : Table s total places) {kept : Extents} (g : Sound kept) (n : ℕ) where
-  pub name_none : count (bundle_of s) ≤ definition_of (bundle_of s) n → (extent_meant (Err Varies) ≡ known s kept n) × Part (Err Varies)
+module _ (s : List ℕ) (kept : Extents) (n : ℕ) where
+  pub name_none : count (bundle_of s) ≤ definition_of (bundle_of s) n → extent_meant (Err Varies) ≡ known s kept n
   unfolding known extent_meant
-  name_none h = (sym (rw (le-ltb (definition_of (bundle_of s) n) (count (bundle_of s)) h) refl), omega arith)
+  name_none h = sym (rw (le-ltb (definition_of (bundle_of s) n) (count (bundle_of s)) h) refl)
 
-  module _ {i : ℕ} (f : (i ≡ definition_of (bundle_of s) n) × (i < count (bundle_of s))) where
-    pub name_below : i < 256
-    name_below = omega (arith, f.1, tb.count, tb.placed.room)
-
-    pub name_kept : {r : Result Extent Refusal} → r ≡ kept_at kept i → (extent_meant r ≡ known s kept n) × Part r
-    unfolding known
-    name_kept {r} e = (
-      ap extent_meant (e ∙ ap (kept_at kept) f.0) ∙ sym (rw (lt-ltb (definition_of (bundle_of s) n) (count (bundle_of s)) (omega (arith, f.0, f.1))) refl),
-      subst Part (sym e) (g.fits i name_below),
-    )
-
--- the aligned as it was read
-pub close_number : (k packed x y : ℕ) (e : meaning.Extent) → x ≡ y → close_of k (attributes packed x) e ≡ close_of k (attributes packed y) e
-close_number k packed x y e p = ap (λ z. close_of k (attributes packed z) e) p
+  pub name_kept : {i : ℕ} → (i ≡ definition_of (bundle_of s) n) × (i < count (bundle_of s)) → i < length kept → {r : Result Extent Unsized} (d : Option (Result Extent Unsized)) → r ≡ unwrap_or (get_or kept i d) (Err Circle) → extent_meant r ≡ known s kept n
+  unfolding known
+  name_kept {i} f h d e = ap extent_meant (e ∙ ap (λ o. unwrap_or o (Err Circle)) (get_or_default kept i d None h) ∙ ap (kept_at kept) f.0) ∙ sym (rw (lt-ltb (definition_of (bundle_of s) n) (count (bundle_of s)) (omega (arith, f.0, f.1))) refl)

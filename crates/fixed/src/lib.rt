@@ -1,123 +1,147 @@
 // The size and alignment of types, where those of the definitions are kept.
 #![tactic(auto)]
 
-ghost use Rattle.std.specs.Prelude.{◌≡◌, ◌+◌, ◌≤◌, ◌<◌, length, get_or};
-ghost use Rattle.meaning.specs.Kinds.{OfType, Primitive, form_of};
+ghost use Rattle.std.specs.Prelude.{◌≡◌, ◌+◌, ◌≤◌, ◌<◌, length};
 ghost use Rattle.meaning.specs.Reader.{little};
 ghost use Rattle.meaning.specs.ReadExpr.{read_expr};
-ghost use Rattle.meaning.specs.ReadType.{read_ty, read_members, read_group, read_enum, read_array};
-ghost use Rattle.meaning.specs.Sizes.{get_primitive_size};
-ghost use Rattle.bundle.specs.View.{Reads};
-ghost use Rattle.bundle.specs.Definitions.{Table};
-ghost use Rattle.fixed_meaning.specs.Extent.{sized};
-ghost use Rattle.extents.specs.Meant.{extent_meant, Part, Open, attributes, close_of};
-ghost use Rattle.fixed.specs.Kept.{known, Sound};
-ghost use Rattle.fixed.specs.Walk.{TypeMeasured, MembersMeasured, GroupMeasured};
+ghost use Rattle.meaning.specs.ReadType.{read_ty, read_member, read_members, read_group, read_enum, read_array};
+ghost use Rattle.bundle.specs.View.{Reads, member_kind};
+ghost use Rattle.extents.specs.Meant.{extent_meant, members_meant, mark};
+ghost use Rattle.fixed.specs.Kept.{known};
+ghost use Rattle.fixed.specs.Walk.{join_of, attributes_at, close_of};
+ghost use Rattle.fixed.specs.Walk.{TypeMeasured, EnumMeasured, ArrayMeasured, MemberMeasured, MembersMeasured, GroupMeasured};
 
-use bundle::{Form, TypeForm};
-use extents::Extent;
-use refusal::Refusal;
+use bundle::{Definitions, Form, MemberForm, TypeForm};
+use extents::{Extent, Members, Packing, Unsized};
 
-// The extent of a type or of its members, and where it ends.
+// Of each definition its extent, where that is known.
+pub type Extents = [Option<Result<Extent, Unsized>>; bundle::DEFINITIONS];
+
+// The extent of a type, or of members that are still to be closed, and where it ends.
 #[derive(Clone, Copy)]
-pub struct Measured {
-    pub extent: Result<Extent, Refusal>,
+pub struct Measured<T> {
+    pub extent: Result<T, Unsized>,
     pub end: usize,
 }
 
-// A primitive aligns to its size.
-fn primitive(kind: u8) -> Result<Extent, Refusal>
-    requires { form_of kind ≡ OfType Primitive }
-    ensures { (extent_meant result ≡ sized (get_primitive_size kind) (get_primitive_size kind)) × Part result }
+// A primitive of this size, to which it aligns.
+fn primitive(size: u8) -> Extent
+    requires { 0 < size }
+    ensures { (result.size ≡ size) × (result.alignment ≡ size) }
 {
-    let size = u64::from(sizes::get_primitive_size(kind));
-    Ok(Extent {
+    let size = u64::from(size);
+    Extent {
         size,
         alignment: size,
-    })
+    }
 }
 
-// The type whose body is at `at`, by its members, which are of kind `kind`.
-fn closed_at(s: &[u8], at: usize, kind: u8, so: Result<Extent, Refusal>) -> Result<Extent, Refusal>
-    requires { (at + 9 ≤ length s.now) × Open so }
-    ensures { (extent_meant result ≡ close_of kind (attributes (get_or s.now at 0) (little s.now (at + 1) 8)) (extent_meant so)) × Part result }
+// The members so far with one more: a field goes behind the others, a variant over them.
+#[tactic(auto, unfolding(crate::specs::Walk::join_of))]
+fn join(
+    member: MemberForm,
+    packing: Packing,
+    so: Result<Members, Unsized>,
+    part: Result<Extent, Unsized>,
+) -> Result<Members, Unsized>
+    ensures { members_meant result ≡ join_of (member_kind member) (mark packing) (members_meant so) (extent_meant part) }
 {
-    extents::close(kind, s[at], evaluate::number_at(s, at + 1, 8), so)
+    match member {
+        MemberForm::Field => extents::with_field(packing, so, part),
+        MemberForm::UnionVariant | MemberForm::EnumVariant | MemberForm::SizedVariant => {
+            extents::with_member(so, part)
+        }
+    }
+}
+
+// The type whose body is at `at`, by its members: it varies where they have values.
+fn closed_at(
+    s: &[u8],
+    at: usize,
+    member: MemberForm,
+    so: Result<Members, Unsized>,
+) -> Result<Extent, Unsized>
+    requires { at + 9 ≤ length s.now }
+    ensures { extent_meant result ≡ close_of (member_kind member) (attributes_at s.now at) (members_meant so) }
+{
+    let fixed = match member {
+        MemberForm::Field | MemberForm::UnionVariant => so,
+        MemberForm::EnumVariant | MemberForm::SizedVariant => Err(extents::vary(so)),
+    };
+    extents::close(
+        extents::packing_of(s[at]),
+        evaluate::number_at(s, at + 1, 8),
+        fixed,
+    )
 }
 
 // The extent of the first definition of the name at `at`.
-fn measure_name(
-    s: &[u8],
-    places: &[u16],
-    count: usize,
-    kept: &[Option<Result<Extent, Refusal>>],
-    at: usize,
-) -> Result<Extent, Refusal>
-    requires { (at + 2 ≤ length s.now) × Table s.now count places.now × Sound kept.now }
-    ensures { (extent_meant result ≡ known s.now kept.now (little s.now at 2)) × Part result }
+fn measure_name(definitions: &Definitions<'_>, kept: &Extents, at: usize) -> Result<Extent, Unsized>
+    requires { at + 2 ≤ length definitions.now.bytes.now }
+    ensures { extent_meant result ≡ known definitions.now.bytes.now kept.now (little definitions.now.bytes.now at 2) }
 {
-    let Some(i) = lookup::definition_of(s, places, count, bundle::u16_at(s, at)) else {
-        return Err(Refusal::Varies);
+    let name = bundle::u16_at(definitions.bytes, at);
+    let Some(i) = lookup::definition_of(definitions, name) else {
+        return Err(Unsized::Varies);
     };
-    kept[i].unwrap_or(Err(Refusal::Varies))
+    kept[i].unwrap_or(Err(Unsized::Circle))
 }
 
 // The extent and the end of the type that was read at `at`.
 #[cycle(measures)]
 pub fn measure_type(
-    s: &[u8],
-    places: &[u16],
-    count: usize,
-    kept: &[Option<Result<Extent, Refusal>>],
+    definitions: &Definitions<'_>,
+    kept: &Extents,
     at: usize,
     depth: usize,
-) -> Measured
-    requires { Table s.now count places.now × Sound kept.now × Reads (read_ty depth s.now at) }
-    ensures { TypeMeasured s.now kept.now (read_ty depth s.now at) result }
+) -> Measured<Extent>
+    requires { Reads (read_ty depth definitions.now.bytes.now at) }
+    ensures { TypeMeasured definitions.now.bytes.now kept.now (read_ty depth definitions.now.bytes.now at) result }
 {
-    let kind = s[at];
+    let kind = definitions.bytes[at];
     let Form::OfType(t) = bundle::form_of(kind) else {
-        return Measured {
-            extent: Err(Refusal::Varies),
-            end: at,
-        };
+        unreachable!()
     };
     let body = at + 1;
     match t {
         TypeForm::Primitive => Measured {
-            extent: primitive(kind),
+            extent: Ok(primitive(sizes::get_primitive_size(kind))),
             end: body,
         },
         TypeForm::TypeRef => Measured {
-            extent: measure_name(s, places, count, kept, body),
+            extent: measure_name(definitions, kept, body),
             end: body + 2,
         },
-        TypeForm::Struct => measure_group(s, places, count, kept, body, depth - 1, 0x50),
-        TypeForm::Union => measure_group(s, places, count, kept, body, depth - 1, 0x51),
-        TypeForm::Enum => measure_enum(s, places, count, kept, body, depth - 1),
-        TypeForm::Array => measure_array(s, places, count, kept, body, depth - 1),
-        TypeForm::SizeUnion => measure_group(s, places, count, kept, body, depth - 1, 0x53),
+        TypeForm::Struct => measure_group(definitions, kept, body, depth - 1, MemberForm::Field),
+        TypeForm::Union => {
+            measure_group(definitions, kept, body, depth - 1, MemberForm::UnionVariant)
+        }
+        TypeForm::Enum => measure_enum(definitions, kept, body, depth - 1),
+        TypeForm::Array => measure_array(definitions, kept, body, depth - 1),
+        TypeForm::SizeUnion => {
+            measure_group(definitions, kept, body, depth - 1, MemberForm::SizedVariant)
+        }
     }
 }
 
-// The same for the struct or union whose body is at `at` and whose members are of kind `kind`.
+// The same for the struct or union whose body is at `at` and which has such members.
 #[cycle(measures)]
 fn measure_group(
-    s: &[u8],
-    places: &[u16],
-    count: usize,
-    kept: &[Option<Result<Extent, Refusal>>],
+    definitions: &Definitions<'_>,
+    kept: &Extents,
     at: usize,
     depth: usize,
-    kind: u8,
-) -> Measured
-    requires { Table s.now count places.now × Sound kept.now × Reads (read_group (read_ty depth) kind s.now at) }
-    ensures { GroupMeasured s.now kept.now kind (read_group (read_ty depth) kind s.now at) result }
+    member: MemberForm,
+) -> Measured<Extent>
+    requires { Reads (read_group (read_ty depth) (member_kind member) definitions.now.bytes.now at) }
+    ensures { GroupMeasured definitions.now.bytes.now kept.now depth (member_kind member) at result }
 {
+    let s = definitions.bytes;
     let n = bundle::u16_at(s, at + 9) as usize;
-    let m = measure_members(s, places, count, kept, at + 11, depth, kind, s[at], n);
+    let packing = extents::packing_of(s[at]);
+    let m = measure_members(definitions, kept, at + 11, depth, member, packing, n);
     Measured {
-        extent: closed_at(s, at, kind, m.extent),
+        extent: closed_at(s, at, member, m.extent),
         end: m.end,
     }
 }
@@ -125,26 +149,24 @@ fn measure_group(
 // The same for the enum whose body is at `at`.
 #[cycle(measures)]
 fn measure_enum(
-    s: &[u8],
-    places: &[u16],
-    count: usize,
-    kept: &[Option<Result<Extent, Refusal>>],
+    definitions: &Definitions<'_>,
+    kept: &Extents,
     at: usize,
     depth: usize,
-) -> Measured
-    requires { Table s.now count places.now × Sound kept.now × Reads (read_enum (read_expr depth) (read_ty depth) s.now at) }
-    ensures { TypeMeasured s.now kept.now (read_enum (read_expr depth) (read_ty depth) s.now at) result }
+) -> Measured<Extent>
+    requires { Reads (read_enum (read_expr depth) (read_ty depth) definitions.now.bytes.now at) }
+    ensures { EnumMeasured definitions.now.bytes.now kept.now depth at result }
 {
+    let s = definitions.bytes;
     let n = bundle::u16_at(s, at + 9) as usize;
     let Ok(after) = bundle::expr_at(s, at + 11, depth) else {
-        return Measured {
-            extent: Err(Refusal::Varies),
-            end: at,
-        };
+        unreachable!()
     };
-    let m = measure_members(s, places, count, kept, after, depth, 0x52, s[at], n);
+    let packing = extents::packing_of(s[at]);
+    let member = MemberForm::EnumVariant;
+    let m = measure_members(definitions, kept, after, depth, member, packing, n);
     Measured {
-        extent: closed_at(s, at, 0x52, m.extent),
+        extent: closed_at(s, at, member, m.extent),
         end: m.end,
     }
 }
@@ -152,61 +174,68 @@ fn measure_enum(
 // The same for the array whose body is at `at`.
 #[cycle(measures)]
 fn measure_array(
-    s: &[u8],
-    places: &[u16],
-    count: usize,
-    kept: &[Option<Result<Extent, Refusal>>],
+    definitions: &Definitions<'_>,
+    kept: &Extents,
     at: usize,
     depth: usize,
-) -> Measured
-    requires { Table s.now count places.now × Sound kept.now × Reads (read_array (read_expr depth) (read_ty depth) s.now at) }
-    ensures { TypeMeasured s.now kept.now (read_array (read_expr depth) (read_ty depth) s.now at) result }
+) -> Measured<Extent>
+    requires { Reads (read_array (read_expr depth) (read_ty depth) definitions.now.bytes.now at) }
+    ensures { ArrayMeasured definitions.now.bytes.now kept.now depth at result }
 {
+    let s = definitions.bytes;
     let Ok(after) = bundle::expr_at(s, at + 10, depth) else {
-        return Measured {
-            extent: Err(Refusal::Varies),
-            end: at,
-        };
+        unreachable!()
     };
-    let counted = evaluate::count_of(s, at + 10, depth);
-    let m = measure_type(s, places, count, kept, after, depth);
+    let m = measure_type(definitions, kept, after, depth);
+    let jagged = s[at + 9] == 1;
+    let counted = if jagged {
+        None
+    } else {
+        evaluate::count_of(s, at + 10, depth)
+    };
     Measured {
-        extent: extents::array_of(s[at + 9], counted, m.extent),
+        extent: extents::array_of(counted, m.extent),
         end: m.end,
     }
 }
 
-// The n members of kind `kind` that were read at `at`, joined.
+// The same for the member at `at`, by its type.
 #[cycle(measures)]
-fn measure_members(
-    s: &[u8],
-    places: &[u16],
-    count: usize,
-    kept: &[Option<Result<Extent, Refusal>>],
+pub fn measure_member(
+    definitions: &Definitions<'_>,
+    kept: &Extents,
     at: usize,
     depth: usize,
-    kind: u8,
-    packed: u8,
-    n: usize,
-) -> Measured
-    requires { Table s.now count places.now × Sound kept.now × Reads (read_members (read_ty depth) kind n s.now at) }
-    ensures { MembersMeasured s.now kept.now kind packed (read_members (read_ty depth) kind n s.now at) result }
+    member: MemberForm,
+) -> Measured<Extent>
+    requires { Reads (read_member (read_ty depth) (member_kind member) definitions.now.bytes.now at) }
+    ensures { MemberMeasured definitions.now.bytes.now kept.now depth (member_kind member) at result }
 {
-    let form = bundle::form_of(kind);
-    let mut so = Ok(Extent {
-        size: 0,
-        alignment: 1,
-    });
+    let Ok(body) = bundle::member_head_at(definitions.bytes, at, member) else {
+        unreachable!()
+    };
+    measure_type(definitions, kept, body, depth)
+}
+
+// The n such members that were read at `at`, joined.
+#[cycle(measures)]
+fn measure_members(
+    definitions: &Definitions<'_>,
+    kept: &Extents,
+    at: usize,
+    depth: usize,
+    member: MemberForm,
+    packing: Packing,
+    n: usize,
+) -> Measured<Members>
+    requires { Reads (read_members (read_ty depth) (member_kind member) n definitions.now.bytes.now at) }
+    ensures { MembersMeasured definitions.now.bytes.now kept.now depth (member_kind member) (mark packing) n at result }
+{
+    let mut so = Ok(extents::NONE);
     let mut next = at;
     for _ in 0..n {
-        let Ok(body) = bundle::member_head_at(s, next, kind, form) else {
-            return Measured {
-                extent: so,
-                end: next,
-            };
-        };
-        let m = measure_type(s, places, count, kept, body, depth);
-        so = extents::join(kind, packed, so, m.extent);
+        let m = measure_member(definitions, kept, next, depth, member);
+        so = join(member, packing, so, m.extent);
         next = m.end;
     }
     Measured {

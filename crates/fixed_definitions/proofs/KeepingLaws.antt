@@ -1,17 +1,16 @@
 -- A definition is measured after those to which its records lead: what is known before, between and after these records.
-use Rattle.std.specs.Prelude.{None, Result, Some}
+use Rattle.std.specs.Prelude.{None, Option, Result, Some}
 use Rattle.std.specs.Option.{is_some}
-use Rattle.refusal.specs.declared.Refusal.{Refusal}
-use Prim.Native.Nat.{ℕ, suc, ◌+◌, ◌-◌, ◌≤◌, ◌<◌}
+use Prim.Native.Nat.{ℕ, suc, ◌+◌, ◌-◌, ◌<◌}
 use native.Mathlib.Omega.{arith}
 use mathlib.Core.Bool.{Bool, true, false, false≢true}
 use mathlib.Core.List.Memᴰ
 use mathlib.Core.List.{List, [], ◌∷◌, Memᴰ}
 use mathlib.Core.Logic.{◌⊎◌, inl, inr, ⊎_elim}
 use mathlib.Core.Path.{◌≡◌, refl, sym, ap, subst, ◌∙◌}
-use Rattle.std.proofs.lemmas.List.{get_or-replicate}
+use Rattle.std.proofs.lemmas.List.{get_or_default, get_or-replicate}
 use lib.Dec.{eqb, ltb}
-use lib.ListN.{length, get_or, set, replicate, length-set}
+use lib.ListN.{get_or, set, replicate, length-set}
 use lib.Seq.{get_or-set_same, get_or-set_other}
 use borrow.Author.Tests.{eqb-true, eqb-false, ltb-true, ltb-false}
 use Rattle.meaning.specs.Circle.{type_names, names_in, resolve, leads_to, settled, circles}
@@ -21,16 +20,16 @@ use Rattle.meaning.specs.Lookup as lookup
 use Rattle.meaning.proofs.Circle.{resolve_below, resolve_mem, settled_zero, settled_step, settled_of}
 use Rattle.bundle.specs.Definitions.{type_at, bundle_of, Table}
 use Rattle.bundle.proofs.LookupLaws.{placed_type, found_none}
-use Rattle.scan.specs.Parts.{Part, type_parts}
-use Rattle.scan.specs.Scan.{record_name, part_at, Run, Records, lead_to, stops, from_stop, NextStop}
-use Rattle.scan.proofs.ScanLaws.{run_none, Lead, first_lead, stop_leads, from_names}
-use Rattle.scan.proofs.Walks.{lead_none, lead_one, definition_flat, definition_lead}
+use Rattle.scan.specs.Scan.{Records, lead_to}
+use Rattle.scan.specs.Parts.{type_parts}
+use Rattle.scan.proofs.Walks.{definition_flat, definition_lead}
+use Rattle.lookup.specs.Led.{LedFirst, NextLed}
 use Rattle.fixed_meaning.specs.Fixed.{measure, measured, extent_of, definition_extent}
 use Rattle.fixed_meaning.proofs.Within.{Agree, measure_local, extent_equation}
-use Rattle.extents.specs.declared.Extent.{Extent}
-use Rattle.extents.specs.Meant as meant
+use Rattle.extents.specs.declared.extent.Extent.{Extent}
+use Rattle.extents.specs.declared.Unsized.{Unsized}
 use Rattle.extents.specs.Meant.{extent_meant}
-use Rattle.fixed.specs.Kept.{Extents, kept_at, Sound, known}
+use Rattle.fixed.specs.Kept.{Extents, known}
 use Rattle.fixed.specs.Walk.{part_of}
 use Rattle.fixed_definitions.specs.Keeping.{Known, KeptExtents, Ready, Kept}
 
@@ -38,19 +37,12 @@ use Rattle.fixed_definitions.specs.Keeping.{Known, KeptExtents, Ready, Kept}
 
 -- the same is kept of definition i
 known_same : {s : List ℕ} {before after : Extents} {i : ℕ} → get_or after i None ≡ get_or before i None → Known s before i → Known s after i
-known_same e k = record { there = rw e k.there; is = rw e k.is; fits = rw e k.fits }
+known_same e k = record { there = rw e k.there; is = rw e k.is }
 
 module _ {s : List ℕ} {kept : Extents} (k : KeptExtents s kept) where
   -- what is kept is the extent
   pub keeps_known : (i : ℕ) → i < 256 → is_some (get_or kept i None) ≡ true → Known s kept i
   keeps_known i h l = ⊎_elim (λ e. absurd (false≢true (ap is_some (sym e) ∙ l))) (λ x. x) (k.each i h)
-
-  -- whatever is kept is an extent
-  pub keeps_sound : Sound kept
-  keeps_sound = record { size = k.size; fits = λ i h. ⊎_elim (λ e. nothing i e) (λ x. x.fits) (k.each i h) }
-    where
-      nothing : (i : ℕ) → get_or kept i None ≡ None → meant.Part (kept_at kept i)
-      nothing i p = rw p (omega arith)
 
 -- nothing is known yet
 pub keeps_start : (s : List ℕ) → KeptExtents s (replicate 256 None)
@@ -78,17 +70,10 @@ module _ {s : List ℕ} {kept : Extents} {n : ℕ} {places : List ℕ} (tb : Tab
 
 -- the records from `at` on are still to be gone through, of those that end at `end`; what those before lead to is kept
 pub record Measuring (s : List ℕ) (i left end : ℕ) (before kept : Extents) (at : ℕ) : Type 0 where
-  pub bound : end ≤ length s
-  pub parts : List Part
-  pub run : Run s end at parts
-  pub ready : Ready s (left - 1) (lead_to s parts) kept
-  pub others : (j : ℕ) → Memᴰ j (leads_to (bundle_of s) i) → Memᴰ j (lead_to s parts) ⊎ Known s kept j
+  pub records : Records s at end
+  pub ready : Ready s (left - 1) (lead_to s records.parts) kept
+  pub others : (j : ℕ) → Memᴰ j (leads_to (bundle_of s) i) → Memᴰ j (lead_to s records.parts) ⊎ Known s kept j
   pub still : (j : ℕ) → j < 256 → Known s before j → Known s kept j
-  pub stop : at < end → stops false false (part_at s at) ≡ true
-
--- the records from the first on that leads
-onward : (s : List ℕ) (ps : List Part) → lead_to s (from_stop false false ps) ≡ lead_to s ps
-onward s ps = ap (resolve (bundle_of s)) (from_names false false ps)
 
 module _ {s : List ℕ} {n : ℕ} {places : List ℕ} (tb : Table s n places) {i : ℕ} (h : i < n) {left : ℕ} {kept : Extents} (g : Ready s left (i ∷ []) kept) where
   pub place_below : i < 256
@@ -97,35 +82,27 @@ module _ {s : List ℕ} {n : ℕ} {places : List ℕ} (tb : Table s n places) {i
   pub some_left : left ≡ 0 → ⊥
   some_left e = settled_zero (bundle_of s) i (subst (λ k. settled (bundle_of s) k i ≡ true) e (g.within i (Memᴰ.head refl)))
 
-  pub measuring_start : {at : ℕ} → NextStop s (get_or places i 0) (get_or places (i + 1) 0 - 3) false false at → Measuring s i left (get_or places (i + 1) 0 - 3) kept kept at
-  measuring_start {at} l =
-      let ps = type_parts (type_at 24 s (get_or places i 0)) in
-      let q : lead_to s (from_stop false false ps) ≡ leads_to (bundle_of s) i = onward s ps ∙ definition_lead tb h in
+  pub measuring_start : Measuring s i left (get_or places (i + 1) 0 - 3) kept kept (get_or places i 0)
+  measuring_start =
       let e : left ≡ suc (left - 1) = omega (arith, some_left) in
       record {
-        bound = (definition_flat tb h).bound;
-        parts = from_stop false false ps;
-        run = l.rest ps (definition_flat tb h).run;
+        records = record { parts = type_parts (type_at 24 s (get_or places i 0)); run = (definition_flat tb h).run; bound = (definition_flat tb h).bound };
         ready = record {
           ends = g.ends;
-          within = λ j m. settled_step (bundle_of s) (left - 1) i j (subst (λ k. settled (bundle_of s) k i ≡ true) e (g.within i (Memᴰ.head refl))) (rw q at m);
+          within = λ j m. settled_step (bundle_of s) (left - 1) i j (subst (λ k. settled (bundle_of s) k i ≡ true) e (g.within i (Memᴰ.head refl))) (rw (definition_lead tb h) at m);
           keeps = g.keeps;
         };
-        others = λ j m. inl (rw q m);
+        others = λ j m. inl (rw (definition_lead tb h) m);
         still = λ j b k. k;
-        stop = l.stop;
       }
 
   -- all of them were gone through, and the extent e by what is kept now is that of the definition
-  module _ {end : ℕ} {after : Extents} {at : ℕ} (w : Measuring s i left end kept after at) (past : end ≤ at) where
+  module _ {end : ℕ} {after : Extents} {at : ℕ} (w : Measuring s i left end kept after at) (past : NextLed s at end None) where
     pub measuring_keeps : KeptExtents s after
     measuring_keeps = w.ready.keeps
 
-    nothing_left : lead_to s w.parts ≡ []
-    nothing_left = ap (lead_to s) (run_none s end at w.parts w.run past)
-
     all_known : (j : ℕ) → Memᴰ j (leads_to (bundle_of s) i) → Known s after j
-    all_known j m = ⊎_elim (λ z. absurd (Memᴰ.not-nil (rw nothing_left at z))) (λ k. k) (w.others j m)
+    all_known j m = ⊎_elim (λ z. absurd (Memᴰ.not-nil (rw (past _ w.records.run) at z))) (λ k. k) (w.others j m)
 
     pub measured_is : part_of s after (type_at 24 s (get_or places i 0)) ≡ definition_extent (bundle_of s) i
     unfolding definition_extent measured leads_to
@@ -134,7 +111,7 @@ module _ {s : List ℕ} {n : ℕ} {places : List ℕ} (tb : Table s n places) {i
         ∙ sym (ap (λ o. measured o (extent_of (bundle_of s))) (placed_type tb i h))
 
     -- it is kept
-    module _ (e : Result Extent Refusal) (p : extent_meant e ≡ definition_extent (bundle_of s) i) (f : meant.Part e) where
+    module _ (e : Result Extent Unsized) (p : extent_meant e ≡ definition_extent (bundle_of s) i) where
       abbrev last : Extents
       last = set after i (Some e)
 
@@ -145,7 +122,7 @@ module _ {s : List ℕ} {n : ℕ} {places : List ℕ} (tb : Table s n places) {i
       other j d = get_or-set_other after i j (Some e) None d
 
       known_now : Known s last i
-      known_now = record { there = rw now refl; is = rw now p; fits = rw now f }
+      known_now = record { there = rw now refl; is = rw now p }
 
       known_still : (j : ℕ) → Known s after j → Known s last j
       known_still j k = go (eqb j i) refl
@@ -175,78 +152,43 @@ module _ {s : List ℕ} {n : ℕ} {places : List ℕ} (tb : Table s n places) {i
         still = λ j b k. known_still j (w.still j b k);
       }
 
--- a record that leads, and the records behind it
-module _ {s : List ℕ} {total : ℕ} {places : List ℕ} (tb : Table s total places) {i left end : ℕ} {before kept : Extents} {at : ℕ} (w : Measuring s i left end before kept at) (h : at < end) where
-  here : Lead s end at w.parts
-  here = first_lead s w.run h (stop_leads s at (w.stop h))
+-- a record that leads to definition j, and the records behind it
+module _ {s : List ℕ} {total : ℕ} {places : List ℕ} (tb : Table s total places) {i left end : ℕ} {before kept : Extents} {at : ℕ} (w : Measuring s i left end before kept at) {j next : ℕ} (l : LedFirst s at end j next) where
+  one : lead_to s w.records.parts ≡ j ∷ lead_to s l.others.parts
+  one = l.leads w.records.parts w.records.run
 
   below : (j : ℕ) → Memᴰ j (leads_to (bundle_of s) i) → j < 256
   unfolding leads_to
   below j m = omega (arith, resolve_below (bundle_of s) (names_in (lookup.type_at (bundle_of s) i)) j m, tb.count, tb.placed.room)
 
-  -- its name lies within the bytes
-  pub name_there : at + 3 ≤ length s
-  name_there = omega (arith, here.there, w.bound)
+  -- definition j is measured next
+  pub measuring_inside : Ready s (left - 1) (j ∷ []) kept
+  measuring_inside = record {
+    ends = w.ready.ends;
+    within = λ x m. w.ready.within x (rw (one, Memᴰ.eq_of_singleton m) (Memᴰ.head refl));
+    keeps = w.ready.keeps;
+  }
 
-  pub behind : Records s (at + 3) end
-  behind = record { parts = here.rest; run = here.run; bound = w.bound }
+  -- definition j is kept
+  pub measuring_next : {after : Extents} → Kept s (j ∷ []) kept after → Measuring s i left end before after next
+  measuring_next {after} f = record {
+    records = l.others;
+    ready = record { ends = w.ready.ends; within = λ x m. w.ready.within x (rw one (Memᴰ.tail m)); keeps = f.keeps };
+    others = λ x m. ⊎_elim (λ z. found x (rw one at z)) (λ k. inr (f.still x (below x m) k)) (w.others x m);
+    still = λ x b k. f.still x b (w.still x b k);
+  }
+    where
+      found : (x : ℕ) → Memᴰ x (j ∷ lead_to s l.others.parts) → Memᴰ x (lead_to s l.others.parts) ⊎ Known s after x
+      found x (Memᴰ.head z) = inr (f.now x (Memᴰ.head z))
+      found x (Memᴰ.tail m) = inl m
 
-  module _ {name j : ℕ} (e : name ≡ record_name s at) (q : j ≡ definition_of (bundle_of s) name) where
-    pub few : j < count (bundle_of s) → j < 256
-    few n = omega (arith, tb.count, tb.placed.room)
-
-    is : j ≡ definition_of (bundle_of s) (record_name s at)
-    is = q ∙ ap (definition_of (bundle_of s)) e
-
-    one : j < count (bundle_of s) → lead_to s w.parts ≡ j ∷ lead_to s here.rest
-    one n = ap (lead_to s) here.is ∙ lead_one s (record_name s at) here.rest is n
-
-    -- definition j is measured next
-    pub measuring_inside : j < count (bundle_of s) → Ready s (left - 1) (j ∷ []) kept
-    measuring_inside n = record {
-      ends = w.ready.ends;
-      within = λ x m. w.ready.within x (rw (one n, Memᴰ.eq_of_singleton m) (Memᴰ.head refl));
-      keeps = w.ready.keeps;
-    }
-
-    module _ {next : ℕ} (l : NextStop s (at + 3) end false false next) where
-      -- it leads nowhere
-      pub measuring_past : count (bundle_of s) ≤ j → Measuring s i left end before kept next
-      measuring_past n =
-          let p : lead_to s w.parts ≡ lead_to s (from_stop false false here.rest) = ap (lead_to s) here.is ∙ lead_none s (record_name s at) here.rest is n ∙ sym (onward s here.rest) in
-          record {
-            bound = w.bound;
-            parts = from_stop false false here.rest;
-            run = l.rest here.rest here.run;
-            ready = rw p at w.ready;
-            others = λ k m. rw p at (w.others k m);
-            still = w.still;
-            stop = l.stop;
-          }
-
-      -- definition j is kept
-      pub measuring_next : j < count (bundle_of s) → {after : Extents} → Kept s (j ∷ []) kept after → Measuring s i left end before after next
-      measuring_next n {after} f =
-          let p : lead_to s w.parts ≡ j ∷ lead_to s (from_stop false false here.rest) = one n ∙ ap (j ∷◌) (sym (onward s here.rest)) in
-          record {
-            bound = w.bound;
-            parts = from_stop false false here.rest;
-            run = l.rest here.rest here.run;
-            ready = record { ends = w.ready.ends; within = λ x m. w.ready.within x (rw p (Memᴰ.tail m)); keeps = f.keeps };
-            others = λ x m. ⊎_elim (λ z. found x (rw p at z)) (λ k. inr (f.still x (below x m) k)) (w.others x m);
-            still = λ x b k. f.still x b (w.still x b k);
-            stop = l.stop;
-          }
-        where
-          found : (x : ℕ) → Memᴰ x (j ∷ lead_to s (from_stop false false here.rest)) → Memᴰ x (lead_to s (from_stop false false here.rest)) ⊎ Known s after x
-          found x (Memᴰ.head z) = inr (f.now x (Memᴰ.head z))
-          found x (Memᴰ.tail m) = inl m
-
-      -- it was kept before
-      pub measuring_known : j < count (bundle_of s) → is_some (get_or kept j None) ≡ true → Measuring s i left end before kept next
-      measuring_known n z = measuring_next n (record {
+  -- it was kept before
+  pub measuring_known : (d : Option (Result Extent Unsized)) → is_some (get_or kept j d) ≡ true → Measuring s i left end before kept next
+  measuring_known d z =
+      let few : j < 256 = omega (arith, l.below, tb.count, tb.placed.room) in
+      measuring_next (record {
         keeps = w.ready.keeps;
-        now = λ x m. subst (Known s kept) (sym (Memᴰ.eq_of_singleton m)) (keeps_known w.ready.keeps j (few n) z);
+        now = λ x m. subst (Known s kept) (sym (Memᴰ.eq_of_singleton m)) (keeps_known w.ready.keeps j few (ap is_some (sym (get_or_default kept j d None (omega (arith, w.ready.keeps.size, few)))) ∙ z));
         still = λ x b k. k;
       })
 

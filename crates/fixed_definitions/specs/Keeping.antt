@@ -5,14 +5,13 @@ use mathlib.Core.List.{List, Memᴰ}
 use Rattle.meaning.specs.Circle.{leads_to, settled, circles}
 use Rattle.bundle.specs.Definitions.{bundle_of}
 use Rattle.fixed_meaning.specs.Fixed.{definition_extent}
-use Rattle.extents.specs.Meant.{extent_meant, Part}
+use Rattle.extents.specs.Meant.{extent_meant}
 use Rattle.fixed.specs.Kept.{Extents, kept_at}
 
 -- the extent of definition i is kept
 pub record Known (s : List ℕ) (kept : Extents) (i : ℕ) : Type 0 where
   pub there : is_some (get_or kept i None) ≡ true
   pub is : extent_meant (kept_at kept i) ≡ definition_extent (bundle_of s) i
-  pub fits : Part (kept_at kept i)
 
 -- of each definition its extent, or None where it is not known yet; where it is, so are those of the definitions to which it leads
 pub record KeptExtents (s : List ℕ) (kept : Extents) : Type 0 where

@@ -11,7 +11,7 @@ use lib.Dec.{leb}
 use borrow.Author.Tests.{ne_eqb}
 use Rattle.meaning.specs.Circle.{circles}
 use Rattle.meaning.specs.Lookup.{member_type}
-use Rattle.meaning.specs.Tree.{Attributes, Ty, struct, Member, member, Members, more, Bundle}
+use Rattle.meaning.specs.Tree.{Attributes, Ty, Member, member, Members, more, Bundle}
 use Rattle.fixed_meaning.specs.Extent.{Extent, sized, unsized, largest, bounded, round_up, offset_of, with_field, with_member, is_alignment, alignment_of, rounded, closed, repeated, array_of}
 use Rattle.fixed_meaning.specs.Fixed.{measure, measure_member, measure_all, measured, extent_of, field_offsets}
 use Rattle.fixed_meaning.proofs.Within.{extent_equation}

@@ -8,9 +8,8 @@ use lib.Dec.{T, eqb, leb, ltb}
 use lib.IntN.{ℤ, pos, negsuc, pos-ne-negsuc, ◌+ℤ◌, ◌-ℤ◌, +ℤ-neg_ℤ_cancel, -ℤ-+ℤ_cancel}
 use lib.Signed.{mag, lt_z, le_z, ◌<ℤ◌, ◌≤ℤ◌}
 use borrow.Author.Tests.{eqb-true, eqb-false, leb-true, leb-false, ltb-true, ltb-false, le-leb, lt-ltb, le-ltb}
-use Rattle.meaning.specs.Tree.{literal}
 use Rattle.fixed_meaning.specs.Value.{valued, unvalued, ranged, signed_limit, complement, literal_value, eq_z, truth}
-use Rattle.fixed_laws.specs.Expressions.{InRange, Complement, plus, minus, Stands, unsigned, i64, i32, i16, i8, Truth, holds, fails, lt, le, outside}
+use Rattle.fixed_laws.specs.Expressions.{InRange, Complement, plus, minus, Stands, unsigned, i64, i32, i16, i8, Truth, holds, fails}
 
 -- Impossible equations.
 
@@ -137,35 +136,23 @@ says_truth t P s x = go t s x
     go false s (holds h e) = absurd (s h)
     go false s (fails h e) = one 0 (omega arith) e
 
+says_by : (t : Bool) {P : Type 0} → (t ≡ true → P) → (t ≡ false → P → ⊥) → Says t P
+says_by true there gone = there refl
+says_by false there gone = gone refl
+
 pub says_eq : (l r : ℤ) → Says (eq_z l r) (l ≡ r)
 unfolding eq_z
-says_eq (pos a) (pos b) = go (eqb a b) refl
-  where
-    go : (t : Bool) → eqb a b ≡ t → Says t (pos a ≡ pos b)
-    go true p = ap pos (eqb-true a b p)
-    go false p = λ e. eqb-false a b p (ap mag e)
+says_eq (pos a) (pos b) = says_by (eqb a b) (λ p. ap pos (eqb-true a b p)) (λ p e. eqb-false a b p (ap mag e))
 says_eq (pos a) (negsuc b) = pos-ne-negsuc a b
 says_eq (negsuc a) (pos b) = λ e. pos-ne-negsuc b a (sym e)
-says_eq (negsuc a) (negsuc b) = go (eqb a b) refl
-  where
-    go : (t : Bool) → eqb a b ≡ t → Says t (negsuc a ≡ negsuc b)
-    go true p = ap negsuc (eqb-true a b p)
-    go false p = λ e. eqb-false a b p (ap mag e)
+says_eq (negsuc a) (negsuc b) = says_by (eqb a b) (λ p. ap negsuc (eqb-true a b p)) (λ p e. eqb-false a b p (ap mag e))
 
 pub says_not : (t : Bool) (P : Type 0) → Says t P → Says (not t) (P → ⊥)
 says_not true P h = λ n. n h
 says_not false P h = h
 
 pub says_lt : (l r : ℤ) → Says (lt_z l r) (l <ℤ r)
-says_lt l r = go (lt_z l r) refl
-  where
-    go : (t : Bool) → lt_z l r ≡ t → Says t (l <ℤ r)
-    go true p = record { lt = rw p tt }
-    go false p = λ h. no_test (sym (passed (lt_z l r) h.lt) ∙ p)
+says_lt l r = says_by (lt_z l r) (λ p. record { lt = rw p tt }) (λ p h. no_test (sym (passed (lt_z l r) h.lt) ∙ p))
 
 pub says_le : (l r : ℤ) → Says (le_z l r) (l ≤ℤ r)
-says_le l r = go (le_z l r) refl
-  where
-    go : (t : Bool) → le_z l r ≡ t → Says t (l ≤ℤ r)
-    go true p = record { le = rw p tt }
-    go false p = λ h. no_test (sym (passed (le_z l r) h.le) ∙ p)
+says_le l r = says_by (le_z l r) (λ p. record { le = rw p tt }) (λ p h. no_test (sym (passed (le_z l r) h.le) ∙ p))

@@ -73,9 +73,6 @@ module _ {s : List ℕ} {n j : ℕ} {t : Ty} {r : CodeOption ℕ} (w : ForwardIn
   pub forward_fit : Fit s p
   forward_fit = subst (FitIn s) q w.fit
 
-  pub forward_many : PartOf (path_at s p) None → ⊥
-  forward_many o = o (bundle_of s).current (subst (OneField s) q w.one)
-
 -- the field of a name f at index j, whose type stands at a position
 module _ (s : List ℕ) (n j f at : ℕ) (r : Shape) (g : ShapeOf 23 s at r) (v : ℕ) where
   pub field_other : ((x : ℕ) → r ≡ shape.TypeRef x → ⊥) → (i : ℕ) → check_field_layout_dependency (bundle_of s) i n (j, member f v (type_at 23 s at)) ≡ none

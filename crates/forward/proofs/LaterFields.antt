@@ -10,21 +10,17 @@ use lib.Dec.{eqb, ltb}
 use lib.ListN.{length, get_or}
 use borrow.Author.Tests.{eqb-true, lt-ltb, le-ltb, ltb-true, ltb-false}
 use Rattle.meaning.specs.Lists.{holds, first_index}
-use Rattle.meaning.specs.Lookup.{names_field, member_name}
+use Rattle.meaning.specs.Lookup.{names_field}
 use Rattle.meaning.specs.Tree.{Ty, Member, Bundle}
 use Rattle.meaning.specs.Violations.{struct_of, stands_after, is_later_field}
 use Rattle.bundle.specs.Definitions.{bundle_of}
 use Rattle.sizes.specs.Scan.{path_at}
 use Rattle.fields.specs.Sought.{shown}
 use Rattle.checks.specs.Checks.{target_at, type_part}
-use Rattle.checks.proofs.ForwardChecks.{no_field, holds_no}
+use Rattle.checks.proofs.ForwardChecks.{holds_no}
+use Rattle.notes.proofs.Indices.{no_first}
 use Rattle.notes.specs.Notes.{first_shown, Entry}
 use Rattle.forward.specs.Forward.{is_forward, is_later, is_later_at, later_from}
-
--- a field part that is not one name is no field of a struct
-no_first : (field : List ℕ) → (length field ≡ 1 → ⊥) → (ms : List Member) → first_index (names_field field) ms ≡ none
-no_first field ne [] = refl
-no_first field ne (m ∷ ms) = rw (no_first field ne ms, no_field field ne (member_name m))
 
 and_false : (x : Bool) → (x && false) ≡ false
 and_false true = refl
@@ -63,15 +59,6 @@ later_falls places n a {j} {k} l = go (eqb (get_or places a 0) n) (ltb (k + 1) (
     go true true q e = let w = ltb-true (k + 1) (get_or places (a + 1) 0) q in sym (lt-ltb (j + 1) (get_or places (a + 1) 0) (omega arith)) ∙ e
     go true false q e = refl
     go false y q e = refl
-
--- it is one of the k
-pub later_below : (places : List ℕ) (n j k a : ℕ) {at : ℕ} → Some at ≡ later_from places n j k a → at + 3 ≤ a + 3 * k
-later_below places n j zero a e = cc
-later_below places n j (suc k) a {at} e = go (is_later_at places n j a) (λ q. later_below places n j k (a + 3) q) e
-  where
-    go : (b : Bool) → (Some at ≡ later_from places n j k (a + 3) → at + 3 ≤ a + 3 + 3 * k) → Some at ≡ cond b (Some a) (later_from places n j k (a + 3)) → at + 3 ≤ a + 3 * suc k
-    go true h e = let z : at ≡ a = cc in omega (arith, z)
-    go false h e = omega (arith, h e)
 
 -- the field part of a forward reference is one name
 pub part_forward : (s : List ℕ) (p n j : ℕ) (t : Ty) → is_forward (bundle_of s) n j t (path_at s p) ≡ true → length (target_at s p).field ≡ 1

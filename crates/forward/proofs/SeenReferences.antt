@@ -2,21 +2,23 @@
 use Rattle.std.specs.Prelude.{None, Ok, Option, Some}
 use Rattle.std.specs.Option.{unwrap_or}
 use Prim.Native.Nat.{ℕ, ◌+◌, ◌-◌, ◌*◌, ◌≤◌, ◌<◌}
+use native.Mathlib.Decide.{dec_lt}
 use native.Mathlib.Omega.{arith}
 use mathlib.Core.Bool.{Bool, true, false, not, cond, ◌&&◌, ◌||◌}
+use mathlib.Core.Logic.{by_cases}
 use mathlib.Core.Option.{none, some}
 use mathlib.Core.Path.{◌≡◌, refl, sym, ap, ap₂, subst, ◌∙◌}
 use mathlib.Core.List.{List, [], ◌∷◌, map, Memᴰ}
-use lib.Dec.{eqb, ltb}
-use lib.ListN.{length, get_or, set, replicate, length-set}
+use lib.Dec.{eqb}
+use lib.ListN.{length, get_or, set, replicate, length-set, get_or-eq_default}
+use Rattle.std.proofs.lemmas.List.{get_or-replicate}
 use lib.Seq.{get_or-set_same, get_or-set_other}
-use borrow.Author.Tests.{eqb-true, eqb-false, ltb-true}
+use borrow.Author.Tests.{eqb-true, eqb-false}
 use Rattle.meaning.specs.References.{collect_field_references_in_type_kind}
 use Rattle.meaning.specs.ReadType.{read_ty}
 use Rattle.meaning.specs.Sizes.{named_size_depends, is_enum_with_constant_size_variants}
 use Rattle.meaning.specs.Tree.{Ty, Bundle}
 use Rattle.meaning.specs.Violations.{type_needs_field_ref_for_layout}
-use Rattle.meaning.proofs.Lists.{get_d_zeros}
 use Rattle.bundle.specs.View.{step_of}
 use Rattle.bundle.specs.Definitions.{type_at, bundle_of, Table}
 use Rattle.bundle.proofs.LookupLaws.{place_ends}
@@ -27,7 +29,7 @@ use Rattle.notes.specs.Notes.{is_constant_array, needs_references, needed_of, Li
 use Rattle.notes.proofs.Needs.{needs_iff}
 use Rattle.forward.specs.Forward.{is_forward, find, position_shown, FitIn, ForwardIn, is_later, is_later_at, later_from, SeenTo, Seen}
 use Rattle.forward.proofs.FieldChecks.{forward_in}
-use Rattle.forward.proofs.LaterFields.{entry_later, later_falls, later_below}
+use Rattle.forward.proofs.LaterFields.{entry_later, later_falls}
 
 -- for a reference inside the type, it is forward where it leads to a later field and the type needs its references
 forward_is : (b : Bundle) (n k : ℕ) (t : Ty) {path : List ℕ} → Memᴰ path (collect_field_references_in_type_kind t) → (later : Bool)
@@ -121,14 +123,8 @@ module _ {s places : List ℕ} {end n j : ℕ} {ps : List ℕ} where
           here = w.here;
         }
 
-    pub seen_below : {at : ℕ} → ((k : ℕ) → from + 3 * k ≡ end → Some at ≡ later_from places n j k from) → at + 3 ≤ end
-    seen_below h = let k = length c.rest in let e = lists_length s places end from c.rest c.lists in omega (arith, later_below places n j k from (h k e), e)
-
   -- what stands where it stopped
   module _ {next : ℕ} (c : Stopped s places end n j ps next) where
-    pub stop_bound : next ≤ end
-    stop_bound = omega (arith, lists_length s places end next c.seen.rest c.seen.lists)
-
     pub stop_found : next < end → Some (get_or places (next + 2) 0) ≡ found_of c.seen.rest
     stop_found l = go c.seen.rest c.seen.lists
       where
@@ -158,36 +154,39 @@ stop_forward {s} {places} t i l {end} {n} {j} c q =
     }
 
 -- where the search in the list of definition i starts
-pub seen_from : {s places : List ℕ} {n j m : ℕ} {seen : List ℕ} → Listed s places m → Seen s places n j seen → (i : ℕ) → i < m
-    → {r : ℕ} → r ≡ cond (ltb 0 (get_or seen i 0)) (get_or seen i 0) (list_start places i) → SeenTo s places (list_start places (i + 1)) n j (needed_of s places i) r
-seen_from {s} {places} {n} {j} {m} {seen} l c i h e = rw e (go (ltb 0 (get_or seen i 0)) refl)
+pub seen_from : {s places : List ℕ} {n j m : ℕ} {seen : List (Option ℕ)} → Listed s places m → Seen s places n j seen → (i : ℕ) → i < m
+    → {r : ℕ} → r ≡ unwrap_or (get_or seen i None) (list_start places i) → SeenTo s places (list_start places (i + 1)) n j (needed_of s places i) r
+seen_from {s} {places} {n} {j} {m} {seen} l c i h e = rw e (go (get_or seen i None) refl)
   where
-    go : (b : Bool) → ltb 0 (get_or seen i 0) ≡ b → SeenTo s places (list_start places (i + 1)) n j (needed_of s places i) (cond b (get_or seen i 0) (list_start places i))
-    go true q = c.each i (ltb-true 0 (get_or seen i 0) q)
-    go false q = record { rest = needed_of s places i; lists = l.each i h; fits = l.fits i h; same = λ k z. refl }
+    go : (o : Option ℕ) → get_or seen i None ≡ o → SeenTo s places (list_start places (i + 1)) n j (needed_of s places i) (unwrap_or o (list_start places i))
+    go (Some at) q = c.each i at q
+    go None q = record { rest = needed_of s places i; lists = l.each i h; fits = l.fits i h; same = λ k z. refl }
 
 -- the list of definition i is seen so far now
-pub seen_put : {s places : List ℕ} {n j : ℕ} {seen : List ℕ} → Seen s places n j seen → (i : ℕ) → i < 256 → {m : ℕ}
-    → SeenTo s places (list_start places (i + 1)) n j (needed_of s places i) m → Seen s places n j (set seen i m)
+pub seen_put : {s places : List ℕ} {n j : ℕ} {seen : List (Option ℕ)} → Seen s places n j seen → (i : ℕ) → i < 256 → {m : ℕ}
+    → SeenTo s places (list_start places (i + 1)) n j (needed_of s places i) m → Seen s places n j (set seen i (Some m))
 seen_put {s} {places} {n} {j} {seen} k i l {m} c = record {
-  size = length-set seen i m ∙ k.size;
+  size = length-set seen i (Some m) ∙ k.size;
   each = λ x. go x (eqb x i) refl;
 }
   where
-    go : (x : ℕ) (b : Bool) → eqb x i ≡ b → 0 < get_or (set seen i m) x 0
-        → SeenTo s places (list_start places (x + 1)) n j (needed_of s places x) (get_or (set seen i m) x 0)
-    go x true q h = rw (eqb-true x i q, get_or-set_same seen i m 0 (omega (arith, k.size))) c
-    go x false q h =
-        let other = get_or-set_other seen i x m 0 (eqb-false x i q) in
-        rw other (k.each x (rw other at h))
+    go : (x : ℕ) (b : Bool) → eqb x i ≡ b → (at : ℕ) → get_or (set seen i (Some m)) x None ≡ Some at → SeenTo s places (list_start places (x + 1)) n j (needed_of s places x) at
+    go x true q at h =
+        let is : Some m ≡ Some at = sym (get_or-set_same seen i (Some m) None (omega (arith, k.size))) ∙ ap (λ x. get_or (set seen i (Some m)) x None) (sym (eqb-true x i q)) ∙ h in
+        let m_at : at ≡ m = cc in
+        rw (eqb-true x i q, m_at) c
+    go x false q at h = k.each x at (sym (get_or-set_other seen i x (Some m) None (eqb-false x i q)) ∙ h)
 
 -- for the field behind
-pub seen_more : {s places : List ℕ} {n j k : ℕ} {seen : List ℕ} → j ≤ k → Seen s places n j seen → Seen s places n k seen
+pub seen_more : {s places : List ℕ} {n j k : ℕ} {seen : List (Option ℕ)} → j ≤ k → Seen s places n j seen → Seen s places n k seen
 seen_more l c = record {
   size = c.size;
-  each = λ i h. let w = c.each i h in record { rest = w.rest; lists = w.lists; fits = w.fits; same = λ m q. w.same m (omega arith) };
+  each = λ i at h. let w = c.each i at h in record { rest = w.rest; lists = w.lists; fits = w.fits; same = λ m q. w.same m (omega arith) };
 }
 
 -- nothing is seen yet
-pub seen_start : (s places : List ℕ) (n j : ℕ) → Seen s places n j (replicate 256 0)
-seen_start s places n j = record { size = refl; each = λ i h. absurd (omega (arith, get_d_zeros 256 i, h)) }
+pub seen_start : (s places : List ℕ) (n j : ℕ) → Seen s places n j (replicate 256 None)
+seen_start s places n j = record { size = refl; each = λ i at h. let z : None ≡ Some at = sym (clear i) ∙ h in cc }
+  where
+    clear : (i : ℕ) → get_or {A = Option ℕ} (replicate 256 None) i None ≡ None
+    clear i = by_cases (dec_lt i 256) (get_or-replicate 256 i None None) (λ (l : ¬ (i < 256)). get_or-eq_default (replicate 256 None) None {n = i} (omega arith))

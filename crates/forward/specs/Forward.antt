@@ -1,5 +1,5 @@
 -- What a struct's check finds in the definitions to which its fields lead: type 4.
-use Rattle.std.specs.Prelude.{Option, Some, None, ℕ, zero, suc, ◌+◌, ◌≤◌, ◌<◌, Bool, not, cond, ◌&&◌, ◌||◌, List, [], ◌∷◌, ◌≡◌, eqb, ltb, length, get_or}
+use Rattle.std.specs.Prelude.{Option, Some, None, ℕ, zero, suc, ◌+◌, ◌≤◌, Bool, not, cond, ◌&&◌, ◌||◌, List, [], ◌∷◌, ◌≡◌, eqb, ltb, length, get_or}
 use Rattle.std.proofs.Math.Option as option
 use Rattle.meaning.specs.Limits.{definition_limit}
 use Rattle.meaning.specs.Lists.{find_map}
@@ -76,7 +76,7 @@ pub record SeenTo (s places : List ℕ) (end n j : ℕ) (ps : List ℕ) (next : 
   pub fits : Fits s rest
   pub same : (k : ℕ) → j ≤ k → find (is_later s n k) rest ≡ find (is_later s n k) ps
 
--- `seen` has for each definition to where its list is seen, and 0 where it is not
-pub record Seen (s places : List ℕ) (n j : ℕ) (seen : List ℕ) : Type 0 where
+-- `seen` has for each definition to where its list is seen, if it is
+pub record Seen (s places : List ℕ) (n j : ℕ) (seen : List (Option ℕ)) : Type 0 where
   pub size : length seen ≡ definition_limit
-  pub each : (i : ℕ) → 0 < get_or seen i 0 → SeenTo s places (list_start places (i + 1)) n j (needed_of s places i) (get_or seen i 0)
+  pub each : (i at : ℕ) → get_or seen i None ≡ Some at → SeenTo s places (list_start places (i + 1)) n j (needed_of s places i) at

@@ -1,3 +1,4 @@
 pub mod Equations
 pub mod Exchanges
 pub mod Examples
+pub mod Parts

@@ -4,6 +4,7 @@
 ghost use Rattle.laws.specs.Equations.{SizeEquations, JaggedEquations};
 ghost use Rattle.laws.specs.Exchanges.{Named, Exchanges};
 ghost use Rattle.laws.specs.Examples.{Examples};
+ghost use Rattle.laws.specs.Parts.{PartsTold};
 
 // The size tests satisfy the Rust's own equations.
 pub fn size_equations()
@@ -28,4 +29,9 @@ pub fn exchanges()
 // Examples of reading, writing and renumbering hold.
 pub fn examples()
     ensures { Examples }
+{}
+
+// A part is refused with one of 2 to 7, and the code's refusal of each has that number.
+pub fn parts_told()
+    ensures { PartsTold }
 {}

@@ -2,10 +2,10 @@
 use Rattle.std.proofs.Common.{ℕ, ◌≡◌, ◌≢◌, ◌≤◌, ◌<◌, Bool, true, false, List, [], ◌∷◌, ◌++◌, length, take, Option, None, Some, IfSome, IsTrue, arith, refl, sym, ap, subst, ◌∙◌, append-nil, length-take-le, take_all}
 use lib.Seq.{take-append_seam}
 use Rattle.std.specs.Io.KnownBytes.{Appends}
-use Rattle.words.specs.Running.{reads_bundle, failure_of, message_of}
+use Rattle.words.specs.Running.{reads_bundle, message_of}
 use Rattle.words.specs.declared.Message as told
 use Rattle.words.specs.declared.Order as asked
-use Rattle.words.specs.declared.Order.TheVariants.{Report, Renumber, Chain, Followed, Size, Value, Help, Wrong}
+use Rattle.words.specs.declared.Order.TheVariants.{Report, Renumber, Chain, Followed, Size, Value, Help}
 use Rattle.responses.specs.Response.{Holds, answer_to}
 use Rattle.layout.specs.Reading.{ReadAll, ReadFor, ReadInto}
 use Rattle.layout.specs.Response.{output_of}
@@ -30,29 +30,28 @@ for_bundle order n places text (Some bytes) (Some rest) old new size within read
     let first = first_bytes 32769 n places bytes rest size within reads.0 reads.1 in
     subst (Appends old new) (same ∙ ap (answer_to order) first ∙ same_answer order bytes) wrote
 
--- an order of which nothing is said, but for help, reads a bundle, and neither reading nor writing failed
-fine : (order : asked.Order) (read : Option ℕ) (written : Bool) → message_of order read written ≡ None → order ≢ Help → (reads_bundle order ≡ true) × (failure_of read written ≡ None)
-fine Report read written said not_help = (refl, said)
-fine Renumber read written said not_help = (refl, said)
-fine (Chain from to) read written said not_help = (refl, said)
-fine (Followed from to) read written said not_help = (refl, said)
-fine (Size definition) read written said not_help = (refl, said)
-fine (Value definition) read written said not_help = (refl, said)
-fine Help read written said not_help = absurd (not_help refl)
-fine Wrong read written said not_help = absurd (cc)
+-- an order that is not for help reads a bundle
+reads_some : (order : asked.Order) → order ≢ Help → reads_bundle order ≡ true
+reads_some Report not_help = refl
+reads_some Renumber not_help = refl
+reads_some (Chain from to) not_help = refl
+reads_some (Followed from to) not_help = refl
+reads_some (Size definition) not_help = refl
+reads_some (Value definition) not_help = refl
+reads_some Help not_help = absurd (not_help refl)
 
--- what was written where neither failed
-without_failure : (order : asked.Order) (read : Option ℕ) (written : Bool) (size : ℕ) (places out : List ℕ) (before after old new : Option (List ℕ)) → failure_of read written ≡ None → length places ≡ 32769 → ReadInto read places
+-- what was written where neither reading nor writing failed
+without_failure : (order : asked.Order) (read : Option ℕ) (written : Bool) (size : ℕ) (places out : List ℕ) (before after old new : Option (List ℕ)) → message_of read written ≡ None → length places ≡ 32769 → ReadInto read places
     → ReadAll read places before after → Holds (output_of order read places) out size → (IsTrue written → Appends old new (take size out)) → IfSome before (λ bytes. Appends old new (answer_to order bytes))
 without_failure order (Some n) true size places out before after old new ok long into reads holds wrote =
     for_bundle order n places (take size out) before after old new long into reads holds.first (wrote refl)
 without_failure order (Some n) false size places out before after old new ok long into reads holds wrote = cc
 without_failure order None written size places out before after old new ok long into reads holds wrote = cc
 
--- the same for each order
+-- the same for each order, by what is said
 pub answered : (order : asked.Order) (read : Option ℕ) (written : Bool) (message : Option told.Message) (size : ℕ) (places out : List ℕ) (before after old new : Option (List ℕ)) → length places ≡ 32769 → ReadInto read places
     → ReadFor (reads_bundle order) read places before after → Holds (output_of order read places) out size → (order ≢ Help → IsTrue written → Appends old new (take size out))
-    → message ≡ message_of order read written → message ≡ None → order ≢ Help → IfSome before (λ bytes. Appends old new (answer_to order bytes))
+    → message ≡ message_of read written → message ≡ None → order ≢ Help → IfSome before (λ bytes. Appends old new (answer_to order bytes))
 answered order read written message size places out before after old new long into reads holds wrote is said not_help =
-    let f : (reads_bundle order ≡ true) × (failure_of read written ≡ None) = fine order read written (sym is ∙ said) not_help in
-    without_failure order read written size places out before after old new f.1 long into (subst (λ b. ReadFor b read places before after) f.0 reads) holds (wrote not_help)
+    let bundle = subst (λ b. ReadFor b read places before after) (reads_some order not_help) reads in
+    without_failure order read written size places out before after old new (sym is ∙ said) long into bundle holds (wrote not_help)

@@ -10,7 +10,7 @@ use Rattle.followed.specs.Followed.{following}
 use Rattle.fixed_meaning.specs.Fixed.{sizing, placing}
 use Rattle.fixed_meaning.specs.Valuing.{valuing}
 use Rattle.words.specs.declared.Order.{Order}
-use Rattle.words.specs.declared.Order.TheVariants.{Report, Renumber, Chain, Followed, Size, Value, Help, Wrong}
+use Rattle.words.specs.declared.Order.TheVariants.{Report, Renumber, Chain, Followed, Size, Value, Help}
 use Rattle.responses.specs.Response.{answer_to}
 
 overlong : (s : List ℕ) → 32768 < length s → read_bundle s ≡ refused 1
@@ -33,4 +33,3 @@ same_answer (Followed from to) s = rw (same_reading s) refl
 same_answer (Size definition) s = rw (same_reading s) refl
 same_answer (Value definition) s = rw (same_reading s) refl
 same_answer Help s = refl
-same_answer Wrong s = refl

@@ -10,7 +10,7 @@ ghost use Rattle.responses.specs.Response.{Holds, answer_to};
 ghost use Rattle.layout.specs.Response.{output_of};
 ghost use Rattle.words.specs.Running.{reads_bundle};
 ghost use Rattle.words.specs.declared.Message.TheVariants.{Arguments, Unread};
-ghost use Rattle.words.specs.declared.Order.TheVariants.{Help, Wrong};
+ghost use Rattle.words.specs.declared.Order.TheVariants.{Help};
 
 use std::env::{Env, FillError};
 use std::io;
@@ -24,11 +24,13 @@ fn input_buffer() -> [u8; bundle::BYTE_LIMIT + 1]
     [0; bundle::BYTE_LIMIT + 1]
 }
 
-// An argument of at most as many bytes as there are places; how many bytes it has. One that is longer or missing counts as empty.
-fn argument(rt: &impl Env, i: usize, buf: &mut [u8]) -> usize
-    ensures { result ≤ length buf.new }
-{
-    rt.arg(i, buf).unwrap_or(0)
+// An argument of at most as many bytes as there are places. One that is longer or missing counts as empty, which no word and
+// no number is: with an `Option`, words::order_of would take three of them and begin each arm with `?`, for the same answer.
+fn argument<'a>(rt: &impl Env, i: usize, buf: &'a mut [u8]) -> &'a [u8] {
+    match rt.arg(i, buf) {
+        Ok(n) => &buf[..n],
+        Err(_) => &[],
+    }
 }
 
 // Whether there is an argument with this number.
@@ -37,46 +39,32 @@ fn is_given(rt: &impl Env, i: usize) -> bool {
     !matches!(rt.arg(i, &mut places), Err(FillError::NotPresent))
 }
 
-// How many arguments there are, the program's own name among them: 5 stands for more too.
+// How many arguments there are, the program's own name among them, of the first five.
 fn argument_count(rt: &impl Env) -> usize {
-    (1..5).find(|&i| !is_given(rt, i)).unwrap_or(5)
+    1 + (1..5).take_while(|&i| is_given(rt, i)).count()
 }
 
-// What the program's arguments ask for. One of more than 4,096 bytes counts as empty.
-fn asked(rt: &impl Env) -> Order {
+// What the program's arguments ask for, if there is such a thing. One of more than 4,096 bytes counts as empty.
+fn asked(rt: &impl Env) -> Option<Order> {
     let mut first = [0u8; 4096];
     let mut second = [0u8; 4096];
     let mut third = [0u8; 4096];
-    let a = argument(rt, 1, &mut first);
-    let b = argument(rt, 2, &mut second);
-    let c = argument(rt, 3, &mut third);
-    words::order_of(argument_count(rt), &first[..a], &second[..b], &third[..c])
+    words::order_of(
+        argument_count(rt),
+        argument(rt, 1, &mut first),
+        argument(rt, 2, &mut second),
+        argument(rt, 3, &mut third),
+    )
 }
 
-// Reads the input until the places are full or it ends. How many bytes it gave, or none where a read failed.
-fn read_input<R: Read>(input: &mut R, buf: &mut [u8]) -> Option<usize>
-    ensures into { ReadInto result buf.new }
-    ensures all { ReadAll result buf.new (R.remaining input.old) (R.remaining input.new) }
-{
-    let mut done = 0;
-    while done < buf.len() {
-        match input.read(&mut buf[done..]) {
-            Ok(0) => break,
-            Ok(n) => done += n,
-            Err(_) => return None,
-        }
-    }
-    Some(done)
-}
-
-// Reads what an order is for: a bundle, or nothing.
+// Reads what an order is for: a bundle, or nothing. How many bytes the input gave, or none where a read failed.
 fn read_for<R: Read>(input: &mut R, order: Order, buf: &mut [u8]) -> Option<usize>
     ensures into { ReadInto result buf.new }
     ensures reads { ReadFor (reads_bundle order) result buf.new (R.remaining input.old) (R.remaining input.new) }
     ensures unread { reads_bundle order ≡ false → input.new ≡ input.old }
 {
     if words::reads_bundle(order) {
-        return read_input(input, buf);
+        return input::read_full(input, buf).ok();
     }
     Some(0)
 }
@@ -119,18 +107,21 @@ fn write<W: Write>(to: &mut W, order: Order, answer: &[u8]) -> io::Result<()>
 }
 
 // Reads, answers and writes. What is to be said on standard error, if something is.
-fn run<R: Read, W: Write>(input: &mut R, to: &mut W, order: Order) -> Option<Message>
-    ensures answered { result ≡ None → order ≢ Help → IfSome (R.remaining input.old) (λ bytes. Appends (W.contents to.old) (W.contents to.new) (answer_to order bytes)) }
+fn run<R: Read, W: Write>(input: &mut R, to: &mut W, asked: Option<Order>) -> Option<Message>
+    ensures answered { IfSome asked (λ order. result ≡ None → order ≢ Help → IfSome (R.remaining input.old) (λ bytes. Appends (W.contents to.old) (W.contents to.new) (answer_to order bytes))) }
     ensures unread { result ≡ Some Unread → to.new ≡ to.old }
-    ensures arguments { result ≡ Some Arguments → order ≡ Wrong }
-    ensures wrong { order ≡ Wrong → (result ≡ Some Arguments) × (input.new ≡ input.old) × (to.new ≡ to.old) }
+    ensures arguments { result ≡ Some Arguments → asked ≡ None }
+    ensures wrong { asked ≡ None → (result ≡ Some Arguments) × (input.new ≡ input.old) × (to.new ≡ to.old) }
 {
+    let Some(order) = asked else {
+        return Some(Message::Arguments);
+    };
     let mut places = input_buffer();
     let read = read_for(input, order, &mut places);
     let mut out = [0; responses::ROOM];
     let size = output(order, read, &places, &mut out);
     let written = write(to, order, &out[..size]);
-    words::message_of(order, read, written.is_ok())
+    words::message_of(read, written.is_ok())
 }
 
 // Says it on standard error. Where that cannot be written, nothing is said.
@@ -145,8 +136,7 @@ fn say(rt: &impl Eprint, message: Message) {
 }
 
 fn main(rt: HostRuntime) {
-    let order = asked(&rt);
-    if let Some(message) = run(&mut rt.stdin(), &mut rt.stdout(), order) {
+    if let Some(message) = run(&mut rt.stdin(), &mut rt.stdout(), asked(&rt)) {
         say(&rt, message);
     }
 }

@@ -21,7 +21,6 @@ use Rattle.meaning.specs.Report.{report}
 use Rattle.meaning.specs.Calls.{Answer, accepted, refused_with, result, answer_of, Call, on_bundle, acceptance}
 use Rattle.meaning.specs.Due.{reporting, renumbering, chain_names, chaining}
 use Rattle.search_from.specs.Listing as listing
-use Rattle.search_from.specs.Listing.{CountIs}
 use Rattle.find_chain.specs.ChainCall.{ChainCall}
 use Rattle.refusals.specs.Numbers.{Keeps}
 use Rattle.refusals.proofs.Unique.{one_to_eight}
@@ -32,11 +31,10 @@ use Rattle.fixed_meaning.specs.Fixed.{sizing, placing}
 use Rattle.fixed_meaning.specs.Value.{valued, unvalued}
 use Rattle.fixed_meaning.specs.Valuing.{valuing}
 use Rattle.fixed_demand.proofs.Answering.{fixed_number}
-use Rattle.value_demand.specs.Demand.{KnownNumber}
 use Rattle.value_demand.proofs.Answering.{value_number}
 use Rattle.values.specs.Meant.{value_meant}
 use Rattle.offsets.specs.Placed as placed
-use Rattle.offsets.specs.Placed.{Extents, FixedCall}
+use Rattle.offsets.specs.Placed.{FixedCall}
 use Rattle.layout_c.specs.Convention.{code_of, written_after, CallInC, AcceptInC, FollowedInC, FixedInC, code_of_value, ValueInC}
 
 -- the number of an answer whose refusals are 1 to `most`
@@ -138,11 +136,6 @@ unfolding placed.answer_meant code_of written_after
 fixed_not_given {x = x} c e = fixed_in_c c refl e (λ z. absurd (omega (arith, e, z, (number_within x).0))) (λ z. (refl, refl))
 
 -- The answer about a value: given, and not.
-
-over : {k : ℕ} → KnownNumber k → k ≡ 0 → ⊥
-over (inl x) z = omega (arith, x.0)
-over (inr (inl x)) z = omega arith
-over (inr (inr x)) z = omega (arith, x.0)
 
 pub value_given : (i : ℕ) (s : List ℕ) (z value : ℤ) → value_meant (Ok z) ≡ valuing i s → ValueInC i s value z 0
 unfolding value_meant code_of_value

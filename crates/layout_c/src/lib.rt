@@ -61,7 +61,8 @@ pub extern "C" fn layout_chain(
     layout_chain_followed(bundle, from, to, list, written, &mut 0)
 }
 
-// The same, with the count of the names whose edges the search followed.
+// The same, with the count of the names whose edges the search followed. Here and below the answer is taken apart in place: each writes
+// other places, and a closure that `give` took for that would have the lines of the arm.
 #[unsafe(no_mangle)]
 pub extern "C" fn layout_chain_followed(
     bundle: &[u8],

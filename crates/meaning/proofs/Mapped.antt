@@ -5,7 +5,7 @@ use mathlib.Core.Path.{◌≡◌, refl, sym, ap, ap₂, ◌∙◌}
 use mathlib.Core.List.{List, [], ◌∷◌, ◌++◌, map}
 use lib.ListN.{length, get_or, length-map}
 use Rattle.names.specs.Documents.{Item, byte, name, bytes, names, map_names}
-use Rattle.names.specs.Records.{items, map_bytes}
+use Rattle.names.specs.Records.{map_bytes}
 use Rattle.names.proofs.Items.{names_append, map_names_append}
 use Rattle.meaning.specs.Kinds.{body, widths}
 use Rattle.meaning.specs.Lists.{flat_map}

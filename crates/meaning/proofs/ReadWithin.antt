@@ -18,7 +18,7 @@ use Rattle.meaning.specs.ReadType.{Head, head, member_body, member_head, read_me
 use Rattle.meaning.specs.ReadBundle.{opening, read_definition, read_edge, Header, read_header, end, read_edges, read_rest, read_records, read_bundle}
 use Rattle.meaning.specs.Encoding.{Bytes, member_count, bundle_bytes}
 use Rattle.meaning.specs.Within.{Fits, Each, Between, ExprOk, expr_depth, AttributesOk, TyOk, MemberOk, MembersOk, ty_depth, member_depth, members_depth, DefinitionOk, EdgeOk, BundleOk}
-use Rattle.meaning.proofs.Readings.{went, there}
+use Rattle.meaning.proofs.Readings.{went}
 use Rattle.meaning.proofs.KindTable.{and_0, and_1}
 use Rattle.meaning.proofs.ExprSpans.{agree, agrees, all_at, little_fits, kind_spans, settle, no}
 use Rattle.meaning.proofs.TypeSpans.{passed}

@@ -8,7 +8,7 @@ use mathlib.Core.Option as option
 use lib.ListN.{length, get_or, replicate}
 use lib.Dec.{lit<}
 use borrow.Author.Tests.{le-leb}
-use Rattle.names.specs.Documents.{byte, name, bytes}
+use Rattle.names.specs.Documents.{byte, bytes}
 use Rattle.meaning.specs.Limits.{definition_limit, edge_limit}
 use Rattle.meaning.specs.Kinds.{kinds, lookup, form_of, widths}
 use Rattle.meaning.specs.Lists.{flat_map}

@@ -1,7 +1,6 @@
 -- Size dependence and jagged nesting (document 01, "Size dependence and jagged nesting").
 -- Each test asks of a name only what `known` says of its first definition, and `answer` is what it is then given.
 use Rattle.std.specs.Prelude.{ℕ, zero, suc, ◌-◌, List, [], ◌∷◌, Bool, true, false, not, ◌&&◌, ◌||◌, eqb, get_or}
-use Rattle.std.proofs.Math.Option.{none}
 use Rattle.meaning.specs.Tree.{Ty, primitive, type_ref, struct, union, enum, array, size_union, Member, member, Members, more, Bundle}
 use Rattle.meaning.specs.Lists.{all, holds}
 use Rattle.meaning.specs.Lookup.{list_of, member_type, count, find_type, as_primitive}

@@ -1,8 +1,8 @@
 -- References are listed one after the other.
 --     walk_room, -next, -end   the walk over those of a run
 use Prim.Native.Nat.{ℕ, ◌+◌, ◌*◌, ◌≤◌, ◌<◌}
-use mathlib.Core.Path.{◌≡◌, refl, sym, ap, ◌∙◌}
-use mathlib.Core.List.{List, []}
+use mathlib.Core.Path.{◌≡◌, sym, ap, ◌∙◌}
+use mathlib.Core.List.{List}
 use mathlib.Core.Logic.{by_cases}
 use native.Mathlib.Omega.{arith}
 use native.Mathlib.Decide.{dec_lt}
@@ -24,9 +24,6 @@ pub record Walk (s : List ℕ) (at end : ℕ) (t : List ℕ) (used : ℕ) (u : L
   pub listed : (v : List ℕ) (e : ℕ) → ((i : ℕ) → used ≤ i → i < to → get_or v i 0 ≡ get_or u i 0) → Lists s v e to (references_from s next end) → Lists s v e used (references_from s at end)
 
 module _ {s : List ℕ} {at end : ℕ} {t : List ℕ} {used : ℕ} {u : List ℕ} {next to : ℕ} (c : Walk s at end t used u next to) where
-  pub walk_end : references_from s next end ≡ [] → Lists s u to used (references_from s at end) × Within used to t u
-  walk_end e = (c.listed u to (λ i b d. refl) (rw e refl), c.only)
-
   module _ {p after : ℕ} (g : ReferenceIs s next end p after) where
     -- it stands before the end
     pub walk_before : next < end

@@ -1,17 +1,13 @@
 -- The field to which a reference leads, by what is noted of the fields.
 --     index_other, -nowhere, -found   the field part is no name, the type is not defined, it is
---     index_small                     the index is a number of 16 bits
 use Rattle.std.specs.Prelude as code
 use Rattle.std.specs.Prelude.{Some, None, IfSome}
-use Prim.Native.Nat.{ℕ, suc, ◌+◌, ◌≤◌, ◌<◌}
+use Prim.Native.Nat.{ℕ}
 use mathlib.Core.Path.{◌≡◌, refl, sym, ap, ◌∙◌}
-use mathlib.Core.Logic.{by_cases}
-use mathlib.Core.Bool.{Bool, true, false, cond}
-use mathlib.Core.Option.{Option, none, some, map}
+use mathlib.Core.Option.{Option, none, some}
 use mathlib.Core.List.{List, [], ◌∷◌}
 use native.Mathlib.Omega.{arith}
-use native.Mathlib.Decide.{dec_lt}
-use lib.ListN.{length, get_or}
+use lib.ListN.{length}
 use Rattle.meaning.specs.Lists.{first_index}
 use Rattle.meaning.specs.Lookup.{list_of, names_field, member_name, as_struct, find_type}
 use Rattle.meaning.specs.Tree.{Ty, primitive, type_ref, struct, union, enum, array, size_union, Member}
@@ -21,13 +17,13 @@ use Rattle.sizes.specs.Scan.{path_at}
 use Rattle.fields.specs.Shapes.{DefinitionIs}
 use Rattle.fields.specs.Sought.{named, shown}
 use Rattle.fields.proofs.Lookups.{struct_none}
-use Rattle.field_index.specs.Noted.{starts_at, struct_fields, fields_at, index_shown, FieldsNoted}
+use Rattle.field_index.specs.Noted.{struct_fields, index_shown}
 use Rattle.checks.specs.Checks.{target_at, type_part, PartOf}
 use Rattle.checks.proofs.ForwardChecks.{no_field}
 use Rattle.notes.specs.Notes.{first_shown, listed, index_for}
 
 -- a field part that is not one name is no field of a struct
-no_first : (field : List ℕ) → (length field ≡ 1 → ⊥) → (ms : List Member) → first_index (names_field field) ms ≡ none
+pub no_first : (field : List ℕ) → (length field ≡ 1 → ⊥) → (ms : List Member) → first_index (names_field field) ms ≡ none
 no_first field ne [] = refl
 no_first field ne (m ∷ ms) = rw (no_first field ne ms, no_field field ne (member_name m))
 
@@ -61,32 +57,3 @@ module _ (s : List ℕ) (p : ℕ) where
         → r ≡ index_shown (first_index (named f) (struct_fields (type_at 24 s at))) → listed r ≡ index_for (bundle_of s) (target_at s p)
     unfolding struct_of
     index_found {at = at} {f = f} d g q = ap listed q ∙ sym (shown_fields f (type_at 24 s at)) ∙ rw (g (bundle_of s).current, ← e, d.is) refl
-
--- an index is below the count of fields
-shown_next : (o : Option ℕ) → shown (map suc o) ≤ suc (shown o)
-shown_next none = omega arith
-shown_next (some i) = omega arith
-
-shown_bound : (test : Member → Bool) (ms : List Member) → shown (first_index test ms) ≤ length ms
-shown_bound test [] = omega arith
-shown_bound test (m ∷ ms) = go (test m) (shown_bound test ms)
-  where
-    go : (b : Bool) → shown (first_index test ms) ≤ length ms → shown (cond b (some 0) (map suc (first_index test ms))) ≤ suc (length ms)
-    go true h = omega arith
-    go false h = omega (arith, shown_next (first_index test ms))
-
-pub index_small : {s places : List ℕ} {n : ℕ} → FieldsNoted s places n → {i : ℕ} → i < n → ((k : ℕ) → get_or places k 0 < 65536) → (f : ℕ) → {r : code.Option ℕ}
-    → r ≡ index_shown (first_index (named f) (fields_at s places i)) → IfSome r (λ k. k < 65535)
-index_small {s} {places} o {i} c l f e = rw e (small (first_index (named f) (fields_at s places i)) below)
-  where
-    below : shown (first_index (named f) (fields_at s places i)) < 65536
-    below =
-        by_cases (dec_lt 0 (get_or places (starts_at + i) 0))
-        (λ (h : 0 < get_or places (starts_at + i) 0). omega (arith, shown_bound (named f) (fields_at s places i), ((o.each i c).part h).count, l (get_or places (starts_at + i) 0)))
-        (λ (h : ¬ (0 < get_or places (starts_at + i) 0)).
-        let no : fields_at s places i ≡ [] = (o.each i c).none (omega arith) in
-        rw no (omega arith))
-
-    small : (o : Option ℕ) → shown o < 65536 → IfSome (index_shown o) (λ k. k < 65535)
-    small none h = tt
-    small (some i) h = omega (arith, h)

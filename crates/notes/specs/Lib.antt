@@ -1,2 +1,4 @@
 pub mod Notes
 pub mod Listing
+pub mod Facts
+pub mod Parts

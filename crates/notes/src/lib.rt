@@ -1,5 +1,6 @@
 // What is noted of a bundle: the references of its definitions, each with the field to which it leads, behind the notes of the fields.
 // A list has for each reference the name of the type that it means, one more than the index of the field, and where it is written.
+// It is no array of structs: lists stand in the lent places of 16 bits (no heap, fixed memory).
 #![tactic(auto)]
 
 ghost use Rattle.std.specs.Prelude.{◌≡◌, IfSome, ◌+◌, ◌*◌, ◌≤◌, ◌<◌, length};
@@ -13,54 +14,52 @@ ghost use Rattle.sizes.specs.Paths.{Fit};
 ghost use Rattle.sizes.specs.Scan.{references_from, Fits};
 ghost use Rattle.field_index.specs.Noted.{parts_at, references_of, ConstantsNoted, FieldsNoted, FieldsBelow, NotedBelow};
 ghost use Rattle.checks.specs.Checks.{target_at, type_part};
-ghost use Rattle.notes.specs.Notes.{is_constant_array, needs_references, needed_of, index_for, listed, Entry, Lists, Noted};
+ghost use Rattle.notes.specs.Notes.{needs_references, needed_of, index_for, listed, Entry, Lists, Noted};
 ghost use Rattle.notes.specs.Listing.{RoomFor};
+ghost use Rattle.notes.specs.Facts.{Noted-prop};
 
-use bundle::Layout;
+use bundle::{Definitions, Layout, Opened};
 use fields::Shape;
 
-// Whether the type that was read at `at` is an array of constant size.
-fn is_constant_array(s: &[u8], at: usize) -> bool
-    requires { Reads (read_ty 24 s.now at) × (length s.now ≤ size_limit) }
-    ensures { result ≡ is_constant_array (type_at 24 s.now at) }
-{
-    let Shape::Array(_) = fields::shape_at(s, at, bundle::DEPTH_LIMIT) else {
-        return false;
-    };
-    sizes::is_constant(s, at + 11, bundle::DEPTH_INSIDE)
+// An opened bundle, with what is noted of it behind the places of its definitions.
+#[derive(Clone, Copy)]
+pub struct Notes<'a> {
+    pub opened: Opened<'a>,
+    pub ghost noted: { Noted opened.definitions.bytes.now opened.definitions.places.now opened.definitions.count } by { Noted-prop opened.definitions.bytes.now opened.definitions.places.now opened.definitions.count },
 }
+
+// Functions that list have the facts of the places in their clauses, as those of crate field_index that note.
 
 // Whether the type that was read at `at` needs the references in it for its layout: all or none of them.
 fn needs_references(s: &[u8], at: usize) -> bool
     requires { Reads (read_ty 24 s.now at) × (length s.now ≤ size_limit) }
     ensures { result ≡ needs_references (type_at 24 s.now at) }
 {
-    if sizes::is_enum_with_constant_size_variants(s, at, bundle::DEPTH_LIMIT) {
-        return false;
+    match fields::shape_at(s, at, bundle::DEPTH_LIMIT) {
+        Shape::Enum => { !sizes::is_enum_with_constant_size_variants(s, at, bundle::DEPTH_LIMIT) }
+        Shape::Array => !sizes::is_constant(s, at + 11, bundle::DEPTH_INSIDE),
+        _ => true,
     }
-    !is_constant_array(s, at)
 }
 
 // The index of the first field that is the field part of the reference at `path`, in the first definition of the name `container`, if that
 // is a struct with one.
-fn index_for(s: &[u8], places: &[u16], count: usize, path: usize, container: u16) -> Option<usize>
-    requires { Table s.now count places.now × Fit s.now path × (container ≡ type_part s.now path) × FieldsNoted s.now places.now count }
-    ensures { (listed result ≡ index_for (bundle_of s.now) (target_at s.now path)) × IfSome result (λ k. k < 65535) }
+fn index_for(definitions: &Definitions<'_>, path: usize, container: u16) -> Option<u16>
+    requires { Fit definitions.now.bytes.now path × (container ≡ type_part definitions.now.bytes.now path) × FieldsNoted definitions.now.bytes.now definitions.now.places.now definitions.now.count }
+    ensures { (listed result ≡ index_for (bundle_of definitions.now.bytes.now) (target_at definitions.now.bytes.now path)) × IfSome result (λ k. k < 65535) }
 {
-    let field = checks::field_part(s, path)?;
-    let i = lookup::definition_of(s, places, count, container)?;
-    field_index::first_index_of(places, i, field)
+    let field = checks::field_part(definitions.bytes, path)?;
+    let i = lookup::definition_of(definitions, container)?;
+    let indices = field_index::indices_of(definitions.places, i, field)?;
+    Some(indices.first)
 }
 
 // How an index is listed: as a number, since its place has 16 bits.
-fn listed(index: Option<usize>) -> u16
+fn listed(index: Option<u16>) -> u16
     requires { IfSome index (λ k. k < 65535) }
     ensures { result ≡ listed index }
 {
-    match index {
-        Some(k) => k as u16 + 1,
-        None => 0,
-    }
+    index.map_or(0, |k| k + 1)
 }
 
 // Lists the reference at `path` in the three places at `used`.
@@ -69,7 +68,12 @@ fn put_entry(s: &[u8], places: &mut [u16], layout: Layout, path: usize, used: us
     ensures { Entry s.now places.new used path × Within used (used + 3) places.old places.new }
 {
     let target = sizes::parse_field_reference(s, path, layout.current);
-    let index = index_for(s, places, layout.definitions, path, target.name);
+    let definitions = Definitions {
+        bytes: s,
+        places: &*places,
+        count: layout.definitions,
+    };
+    let index = index_for(&definitions, path, target.name);
     places[used] = target.name;
     places[used + 1] = listed(index);
     places[used + 2] = path as u16;
@@ -102,12 +106,17 @@ fn list_definition(s: &[u8], places: &mut [u16], layout: Layout, i: usize, used:
     requires { LayoutOf s.now layout places.old × FieldsBelow s.now places.old layout.definitions used × (i < layout.definitions) × RoomFor places.old used (length (references_of s.now places.old i)) }
     ensures { Lists s.now places.new result used (needed_of s.now places.old i) × Within used result places.old places.new }
 {
-    let place = fields::place_of(s, places, layout.definitions, i);
-    if needs_references(s, place.at) {
-        let end = fields::end_of(s, places, layout.definitions, i);
-        return list_from(s, places, layout, place.at, end, used);
+    let definitions = Definitions {
+        bytes: s,
+        places: &*places,
+        count: layout.definitions,
+    };
+    let at = fields::place_of(&definitions, i).at;
+    if !needs_references(s, at) {
+        return used;
     }
-    used
+    let end = fields::end_of(&definitions, i);
+    list_from(s, places, layout, at, end, used)
 }
 
 // Lists the references that each definition needs, behind the notes of the fields, which end at `used`.
@@ -132,4 +141,23 @@ pub fn note(s: &[u8], places: &mut [u16], layout: Layout)
     field_index::note_constants(s, places, layout.definitions);
     let used = field_index::note_structs(s, places, layout.definitions);
     list_references(s, places, layout, used);
+}
+
+// The same, and the bundle with what is noted of it, as long as the places are lent.
+pub fn notes_of<'a>(s: &'a [u8], places: &'a mut [u16], layout: Layout) -> Notes<'a>
+    requires { LayoutOf s.now layout places.old × (2 * parts_at + 3 * length s.now + 9 ≤ 2 * length places.old) }
+    ensures { (result.opened.definitions.bytes.now ≡ s.now) × (result.opened.layout ≡ layout) }
+{
+    note(s, places, layout);
+    let definitions = Definitions {
+        bytes: s,
+        places: &*places,
+        count: layout.definitions,
+    };
+    Notes {
+        opened: Opened {
+            definitions,
+            layout,
+        },
+    }
 }

@@ -1,5 +1,7 @@
 -- Where a definition's fields are, and their offsets, in the form in which the code returns them.
-use Rattle.std.specs.Prelude.{Err, Ok, Result}
+use Rattle.std.specs.Prelude.{Err, None, Ok, Option, Result}
+use Rattle.std.specs.Option.{unwrap_or}
+use Rattle.std.proofs.lemmas.List.{get_or_default}
 use Rattle.refusal.specs.declared.Refusal.{Refusal}
 use Rattle.refusal.specs.declared.Refusal.TheVariants.{NoRoom, Varies}
 use Rattle.refusal.specs.Numbers.{number}
@@ -15,20 +17,17 @@ use lib.Seq.{take-suc-set, drop-set-lt}
 use borrow.Author.Tests.{le-leb, lt-leb, leb-true}
 use lib.Dec.{leb}
 use Rattle.meaning.specs.Circle.{type_names, resolve, leads_to, circles}
-use Rattle.meaning.specs.Kinds.{Form, OfType, Primitive, TypeRef, Struct, Union, Enum, Array, SizeUnion}
-use Rattle.meaning.specs.Kinds as kinds
+use Rattle.meaning.specs.Kinds.{Form, TypeForm, OfType, Primitive, TypeRef, Struct, Union, Enum, Array, SizeUnion}
 use Rattle.meaning.specs.Lookup.{count, definition_of, find_type}
 use Rattle.meaning.specs.Lookup as lookup
 use Rattle.meaning.specs.Reader.{little}
 use Rattle.meaning.proofs.Heads.{little_2}
-use Rattle.meaning.specs.ReadType.{head, member_head, read_group, read_members, read_ty}
-use Rattle.meaning.specs.Tree.{Ty, type_ref, struct, Attributes, Members, more, none, Bundle}
-use Rattle.meaning.specs.Calls as calls
+use Rattle.meaning.specs.ReadType.{head, read_group, read_members, read_ty}
+use Rattle.meaning.specs.Tree.{Ty, type_ref, struct, Attributes, more, none, Bundle}
+use Rattle.meaning.specs.Tree as tree
 use Rattle.meaning.specs.Calls.{Outcome, refusal, on_bundle, due_of, answer_of, places_after}
-use Rattle.bundle.specs.declared.TypeForm.{TypeForm}
-use Rattle.bundle.specs.declared.TypeForm.TheVariants as code
 use Rattle.bundle.specs.declared.Layout.{Layout}
-use Rattle.bundle.specs.View.{step_of, count_of, type_form_meant, Reads, value_or}
+use Rattle.bundle.specs.View.{count_of, Reads, value_or}
 use Rattle.bundle.specs.Definitions.{type_at, members_at, zero_group, bundle_of, Table}
 use Rattle.bundle.specs.Opened.{LayoutOf}
 use Rattle.bundle.proofs.ExprLaws.{Opened}
@@ -37,21 +36,24 @@ use Rattle.scan.specs.Scan.{record_name, part_at, Run}
 use Rattle.scan.proofs.ScanLaws.{leading}
 use Rattle.scan.proofs.Walks.{lead_one, definition_flat}
 use Rattle.bundle.proofs.LookupLaws.{placed_at, placed_type, found_none}
-use Rattle.bundle.proofs.TypeTrees.{primitive_tree, type_ref_tree, struct_reads, struct_tree, union_tree, size_union_tree, group_reads, group_value}
-use Rattle.bundle.proofs.PartTrees.{members_split}
+use Rattle.bundle.proofs.TypeTrees.{type_form, primitive_tree, type_ref_tree, struct_reads, struct_tree, union_tree, size_union_tree, group_reads, group_value}
 use Rattle.bundle.proofs.Heads.{count_where}
 use Rattle.bundle.proofs.Parts.{enum_at, array_at, members_none, members_length}
 use Rattle.fixed_meaning.specs.Extent as meaning
 use Rattle.fixed_meaning.specs.Extent.{sized, unsized, largest, bounded, offset_of, with_field, is_alignment, rounded, closed}
 use Rattle.fixed_meaning.proofs.Within.{Agree, measure_local, offsets_local, extent_equation, no_definition}
 use Rattle.fixed_meaning.specs.Fixed.{measure, measure_member, measure_all, measured, extent_of, field_offset, field_offsets, offsets_of, offsets_in, offsets_within, definition_extent, definition_offsets, given, sizing, placing}
-use Rattle.extents.specs.declared.Extent.{Extent}
-use Rattle.extents.specs.Meant.{extent_meant, Open, attributes, join_of}
+use Rattle.extents.specs.declared.extent.Extent.{Extent}
+use Rattle.extents.specs.declared.extent.Members.{Members}
+use Rattle.extents.specs.declared.Unsized.{Unsized}
+use Rattle.extents.specs.declared.Unsized.TheVariants.{Circle}
+use Rattle.extents.specs.Meant.{reason, extent_meant, members_meant, mark, packing_of, attributes}
+use Rattle.extents.proofs.Parts.{with_packing, offset_packing}
 use Rattle.fixed.specs.declared.Measured.{Measured}
 use Rattle.fixed.specs.Kept.{Extents, known}
-use Rattle.fixed.specs.Walk.{part_of, members_of, IsRead}
-use Rattle.fixed.proofs.WalkLaws.{group_count, group_attributes, Joining, joining_start, joining_next}
-use Rattle.fixed_definitions.specs.Keeping.{Known, KeptExtents}
+use Rattle.fixed.specs.Walk.{join_of, member_of, members_of, MemberMeasured}
+use Rattle.fixed.proofs.WalkLaws.{group_count, group_attributes, Joining, joining_start, joining_next, members_split}
+use Rattle.fixed_definitions.specs.Keeping.{Known, KeptExtents, Kept}
 use Rattle.fixed_definitions.proofs.KeepingLaws.{agree}
 use Rattle.offsets.specs.declared.Placement.{Placement}
 use Rattle.offsets.specs.Placed.{answer_meant, HasEnd, Answered, Placing, FixedCall, Resolved, FieldsFrom}
@@ -65,6 +67,16 @@ closed_end a e n m h = go (is_alignment a.aligned) e h
     go true (sized x y) h = (x, (y, refl))
     go true (unsized k) h = let z : ◌≡◌ {A = ℕ} 0 1 = cc in absurd (omega arith)
     go false e h = let z : ◌≡◌ {A = ℕ} 0 1 = cc in absurd (omega arith)
+
+-- the offsets of fields that are packed as the byte says
+offsets_packing : (packed : ℕ) (ms : tree.Members) (so : meaning.Extent) (known : ℕ → meaning.Extent) → field_offsets (mark (packing_of packed)) ms so known ≡ field_offsets packed ms so known
+unfolding field_offsets
+offsets_packing packed none so known = refl
+offsets_packing packed (more m ms) so known = rw (offset_packing packed, with_packing packed) (ap (field_offset packed so (measure_member m known) ∷◌) (offsets_packing packed ms _ known))
+
+fields_packing : (packed : ℕ) (ms : tree.Members) (so : meaning.Extent) (known : ℕ → meaning.Extent) → measure_all (with_field (mark (packing_of packed))) ms so known ≡ measure_all (with_field packed) ms so known
+fields_packing packed none so known = refl
+fields_packing packed (more m ms) so known = rw (with_packing packed) (fields_packing packed ms _ known)
 
 -- A type that was read, by its first record: a TypeRef or not.
 
@@ -96,22 +108,24 @@ module _ (s : List ℕ) (end at : ℕ) where
 
 -- a type that was read, by its form
 module _ {d at : ℕ} {s : List ℕ} {f : Form} (o : Opened d at s f) (r : Reads (read_ty d s at)) where
-  pub not_struct : (t : TypeForm) → f ≡ OfType (type_form_meant t) → (t ≡ code.Struct → ⊥) → (known : ℕ → meaning.Extent) → offsets_of (type_at d s at) known (λ n. []) ≡ []
-  unfolding type_form_meant
-  not_struct code.Primitive p k known = rw (primitive_tree o r p)
-  not_struct code.TypeRef p k known = rw (type_ref_tree o r p)
-  not_struct code.Struct p k known = absurd (k refl)
-  not_struct code.Union p k known = rw (union_tree o r zero_group p)
-  not_struct code.Enum p k known = rw (enum_at o r p).parts.tree
-  not_struct code.Array p k known = rw (array_at o r p).parts.tree
-  not_struct code.SizeUnion p k known = rw (size_union_tree o r zero_group p)
+  pub not_struct : (f ≡ OfType Struct → ⊥) → (known : ℕ → meaning.Extent) → offsets_of (type_at d s at) known (λ n. []) ≡ []
+  not_struct q known = let t = type_form o r in go t.0 t.1
+    where
+      go : (t : TypeForm) → f ≡ OfType t → offsets_of (type_at d s at) known (λ n. []) ≡ []
+      go Primitive p = rw (primitive_tree o r p)
+      go TypeRef p = rw (type_ref_tree o r p)
+      go Struct p = absurd (q p)
+      go Union p = rw (union_tree o r zero_group p)
+      go Enum p = rw (enum_at o r p).parts.tree
+      go Array p = rw (array_at o r p).parts.tree
+      go SizeUnion p = rw (size_union_tree o r zero_group p)
 
   -- a struct's head lies within the bytes
   pub struct_there : f ≡ OfType Struct → at + 12 ≤ length s
   struct_there p = omega (arith, (count_where (at + 1) _ _ s (group_count (d - 1) s (at + 1) 0x50 (struct_reads o r p))).1)
 
   -- its fields
-  pub struct_fields : (n : ℕ) → d ≡ 24 → f ≡ OfType Struct → n ≡ little s (at + 10) 2 → get_or s (at + 10) 0 < 256 → get_or s (at + 11) 0 < 256 → FieldsFrom s at (get_or s (at + 1) 0) n (at + 12)
+  pub struct_fields : (n : ℕ) → d ≡ 24 → f ≡ OfType Struct → n ≡ little s (at + 10) 2 → get_or s (at + 10) 0 < 256 → get_or s (at + 11) 0 < 256 → FieldsFrom s at (mark (packing_of (get_or s (at + 1) 0))) n (at + 12)
   struct_fields n z p k low high =
       let e : d - 1 ≡ 23 = omega arith in
       let q = subst (λ x. Reads (read_group (read_ty x) 0x50 s (at + 1))) e (struct_reads o r p) in
@@ -128,8 +142,8 @@ module _ {d at : ℕ} {s : List ℕ} {f : Form} (o : Opened d at s f) (r : Reads
       record {
         reads = group_reads (read_ty 23) 0x50 s (at + 1) n (at + 12) c q;
         few = omega (arith, k, l);
-        offsets = λ known. ap (λ x. offsets_of x known (λ m. [])) t;
-        end = λ known size al w. closed_end _ _ size al (sym (ap (λ x. measure x known) t) ∙ w);
+        offsets = λ known. ap (λ x. offsets_of x known (λ m. [])) t ∙ sym (offsets_packing (get_or s (at + 1) 0) _ _ known);
+        end = λ known size al w. rw (fields_packing (get_or s (at + 1) 0)) (closed_end _ _ size al (sym (ap (λ x. measure x known) t) ∙ w));
       }
 
 -- The TypeRefs of a definition: `done` were followed, to definition i, of at most n.
@@ -240,7 +254,7 @@ module _ {s : List ℕ} {n : ℕ} {places : List ℕ} (tb : Table s n places) (c
 
 -- The offsets of fields that have an end.
 
-unsized_stays : (packed : ℕ) (ms : Members) (k : ℕ) (known : ℕ → meaning.Extent) → HasEnd (measure_all (with_field packed) ms (unsized k) known) → ⊥
+unsized_stays : (packed : ℕ) (ms : tree.Members) (k : ℕ) (known : ℕ → meaning.Extent) → HasEnd (measure_all (with_field packed) ms (unsized k) known) → ⊥
 unfolding with_field
 unsized_stays packed none k known h = let z : ◌≡◌ {A = ℕ} 0 1 = zero_one h.1.1 in omega arith
   where
@@ -253,7 +267,7 @@ unsized_stays packed (more m ms) k known h = go (measure_member m known) h (λ j
     go (unsized j) h ih = ih _ h
 
 -- the offset of a field that is joined to others with an end
-offset_most : (packed : ℕ) (ms : Members) (so e : meaning.Extent) (known : ℕ → meaning.Extent) → HasEnd (measure_all (with_field packed) ms (with_field packed so e) known) → field_offset packed so e ≤ largest
+offset_most : (packed : ℕ) (ms : tree.Members) (so e : meaning.Extent) (known : ℕ → meaning.Extent) → HasEnd (measure_all (with_field packed) ms (with_field packed so e) known) → field_offset packed so e ≤ largest
 unfolding with_field bounded
 offset_most packed ms (sized end most) (sized size a) known h = go (leb (offset_of packed end a) largest) refl h
   where
@@ -264,71 +278,68 @@ offset_most packed ms (sized end most) (unsized k) known h = omega arith
 offset_most packed ms (unsized j) e known h = omega arith
 
 -- how many offsets there are
-offsets_length : (packed : ℕ) (ms : Members) (so : meaning.Extent) (known : ℕ → meaning.Extent) → length (field_offsets packed ms so known) ≡ length (lookup.list_of ms)
+offsets_length : (packed : ℕ) (ms : tree.Members) (so : meaning.Extent) (known : ℕ → meaning.Extent) → length (field_offsets packed ms so known) ≡ length (lookup.list_of ms)
 unfolding field_offsets
 offsets_length packed none so known = refl
 offsets_length packed (more m ms) so known = ap suc (offsets_length packed ms (with_field packed so (measure_member m known)) known)
 
 -- of n fields at `at`, those behind the first i, at `next`, are still to be written, at place i of the list; before it was `before`
-pub record Writing (s : List ℕ) (kept : Extents) (packed n at : ℕ) (before : List ℕ) (so : Result Extent Refusal) (next i : ℕ) (offsets : List ℕ) : Type 0 where
+pub record Writing (s : List ℕ) (kept : Extents) (packed n at : ℕ) (before : List ℕ) (so : Result Members Unsized) (next i : ℕ) (offsets : List ℕ) : Type 0 where
   pub joining : Joining s kept 23 0x50 packed n at so next i
   pub long : n ≤ length before
   pub size : length offsets ≡ length before
-  pub done : take i offsets ++ field_offsets packed (members_at 23 0x50 (n - i) s next) (extent_meant so) (known s kept) ≡ field_offsets packed (members_at 23 0x50 n s at) (sized 0 1) (known s kept)
+  pub done : take i offsets ++ field_offsets packed (members_at 23 0x50 (n - i) s next) (members_meant so) (known s kept) ≡ field_offsets packed (members_at 23 0x50 n s at) (sized 0 1) (known s kept)
   pub others : drop n offsets ≡ drop n before
   pub end : HasEnd (members_of s kept 0x50 packed (members_at 23 0x50 n s at) (sized 0 1))
 
 pub writing_start : {s : List ℕ} {kept : Extents} {packed n at : ℕ} (before : List ℕ) → Reads (read_members (read_ty 23) 0x50 n s at) → n ≤ length before
-    → HasEnd (members_of s kept 0x50 packed (members_at 23 0x50 n s at) (sized 0 1)) → Writing s kept packed n at before (Ok (record { size = 0; alignment = 1 })) at 0 before
-unfolding extent_meant
-writing_start {n = n} before r h e =
+    → HasEnd (members_of s kept 0x50 packed (members_at 23 0x50 n s at) (sized 0 1))
+    → (m : Members) → m.end ≡ 0 → m.alignment ≡ 1 → Writing s kept packed n at before (Ok m) at 0 before
+unfolding members_meant
+writing_start {n = n} before r h e m p q =
     let z : n - 0 ≡ n = omega arith in
-    record { joining = joining_start r; long = h; size = refl; done = rw z refl; others = refl; end = e }
+    record { joining = joining_start r m p q; long = h; size = refl; done = rw (z, p, q) refl; others = refl; end = e }
 
-module _ {s : List ℕ} {kept : Extents} {packed n at : ℕ} {before : List ℕ} {so : Result Extent Refusal} {next i : ℕ} {offsets : List ℕ} (w : Writing s kept packed n at before so next i offsets) where
+module _ {s : List ℕ} {kept : Extents} {packed n at : ℕ} {before : List ℕ} {so : Result Members Unsized} {next i : ℕ} {offsets : List ℕ} (w : Writing s kept packed n at before so next i offsets) where
   pub writing_end : n ≡ i → offsets ≡ field_offsets packed (members_at 23 0x50 n s at) (sized 0 1) (known s kept) ++ drop n before
   unfolding field_offsets
   writing_end z =
       let e : n - i ≡ 0 = omega arith in
       let p : take n offsets ++ [] ≡ field_offsets packed (members_at 23 0x50 n s at) (sized 0 1) (known s kept) =
       subst (λ x. take x offsets ++ [] ≡ field_offsets packed (members_at 23 0x50 n s at) (sized 0 1) (known s kept)) (sym z)
-      (ap (λ ms. take i offsets ++ field_offsets packed ms (extent_meant so) (known s kept)) (sym (members_none 23 0x50 s (n - i) next e)) ∙ w.done) in
+      (ap (λ ms. take i offsets ++ field_offsets packed ms (members_meant so) (known s kept)) (sym (members_none 23 0x50 s (n - i) next e)) ∙ w.done) in
       sym (take-append-drop n offsets) ∙ ap (λ xs. xs ++ drop n offsets) (sym (append-nil (take n offsets)) ∙ p)
       ∙ ap (λ xs. field_offsets packed (members_at 23 0x50 n s at) (sized 0 1) (known s kept) ++ xs) w.others
 
-  -- the type of the next field stands at b
-  module _ (h : i < n) (b : ℕ) (e : Ok b ≡ step_of (member_head 0x50 s next)) {r : Measured}
-      (g : IsRead largest (part_of s kept (type_at 23 s b)) (step_of (read_ty 23 s b)) r) {v : ℕ} (q : v ≡ field_offset packed (extent_meant so) (extent_meant r.extent)) where
-    some : 0 < n - i
-    some = omega arith
-
-    fields_split : field_offsets packed (members_at 23 0x50 (n - i) s next) (extent_meant so) (known s kept) ≡ v ∷ field_offsets packed (members_at 23 0x50 (n - i - 1) s r.end) (with_field packed (extent_meant so) (extent_meant r.extent)) (known s kept)
-    unfolding field_offsets part_of
-    fields_split = rw (members_split 23 0x50 s (n - i) next some w.joining.reads b e r.end g.ended, q, g.is)
+  -- the next field
+  module _ (h : i < n) {r : Measured Extent} (g : MemberMeasured s kept 23 0x50 next r) {v : ℕ} (q : v ≡ field_offset packed (members_meant so) (extent_meant r.extent)) where
+    fields_split : field_offsets packed (members_at 23 0x50 (n - i) s next) (members_meant so) (known s kept) ≡ v ∷ field_offsets packed (members_at 23 0x50 (n - i - 1) s r.end) (with_field packed (members_meant so) (extent_meant r.extent)) (known s kept)
+    unfolding field_offsets member_of
+    fields_split = rw (members_split w.joining h r.end g.ended, q, g.is)
 
     pub writing_most : v ≤ largest
-    unfolding members_of join_of part_of
+    unfolding members_of join_of member_of
     writing_most =
-        let t : members_of s kept 0x50 packed (members_at 23 0x50 (n - i) s next) (extent_meant so) ≡ members_of s kept 0x50 packed (members_at 23 0x50 (n - i - 1) s r.end) (with_field packed (extent_meant so) (extent_meant r.extent)) =
-        rw (members_split 23 0x50 s (n - i) next some w.joining.reads b e r.end g.ended, g.is) in
-        let z : field_offset packed (extent_meant so) (extent_meant r.extent) ≤ largest =
-        offset_most packed (members_at 23 0x50 (n - i - 1) s r.end) (extent_meant so) (extent_meant r.extent) (known s kept) (w.end.0, (w.end.1.0, sym t ∙ w.joining.join ∙ w.end.1.1)) in
+        let t : members_of s kept 0x50 packed (members_at 23 0x50 (n - i) s next) (members_meant so) ≡ members_of s kept 0x50 packed (members_at 23 0x50 (n - i - 1) s r.end) (with_field packed (members_meant so) (extent_meant r.extent)) =
+        rw (members_split w.joining h r.end g.ended, g.is) in
+        let z : field_offset packed (members_meant so) (extent_meant r.extent) ≤ largest =
+        offset_most packed (members_at 23 0x50 (n - i - 1) s r.end) (members_meant so) (extent_meant r.extent) (known s kept) (w.end.0, (w.end.1.0, sym t ∙ w.joining.join ∙ w.end.1.1)) in
         subst (λ x. x ≤ largest) (sym q) z
 
-    pub writing_next : {so' : Result Extent Refusal} → (extent_meant so' ≡ with_field packed (extent_meant so) (extent_meant r.extent)) × Open so'
+    pub writing_next : {so' : Result Members Unsized} → members_meant so' ≡ with_field packed (members_meant so) (extent_meant r.extent)
         → Writing s kept packed n at before so' r.end (i + 1) (set offsets i v)
     unfolding join_of
     writing_next {so'} j = record {
-      joining = joining_next w.joining h b e g (j.0 ∙ as_join, j.1);
+      joining = joining_next w.joining h g (j ∙ as_join);
       long = w.long;
       size = length-set offsets i v ∙ w.size;
       done =
           let z : n - (i + 1) ≡ n - i - 1 = omega arith in
           rw z (
-          ap (λ k. take k (set offsets i v) ++ field_offsets packed (members_at 23 0x50 (n - i - 1) s r.end) (extent_meant so') (known s kept)) (add-one i)
-          ∙ ap (λ xs. xs ++ field_offsets packed (members_at 23 0x50 (n - i - 1) s r.end) (extent_meant so') (known s kept)) (take-suc-set offsets i v (omega (arith, w.long, w.size)))
-          ∙ append_assoc (take i offsets) (v ∷ []) (field_offsets packed (members_at 23 0x50 (n - i - 1) s r.end) (extent_meant so') (known s kept))
-          ∙ ap (λ x. take i offsets ++ (v ∷ field_offsets packed (members_at 23 0x50 (n - i - 1) s r.end) x (known s kept))) j.0
+          ap (λ k. take k (set offsets i v) ++ field_offsets packed (members_at 23 0x50 (n - i - 1) s r.end) (members_meant so') (known s kept)) (add-one i)
+          ∙ ap (λ xs. xs ++ field_offsets packed (members_at 23 0x50 (n - i - 1) s r.end) (members_meant so') (known s kept)) (take-suc-set offsets i v (omega (arith, w.long, w.size)))
+          ∙ append_assoc (take i offsets) (v ∷ []) (field_offsets packed (members_at 23 0x50 (n - i - 1) s r.end) (members_meant so') (known s kept))
+          ∙ ap (λ x. take i offsets ++ (v ∷ field_offsets packed (members_at 23 0x50 (n - i - 1) s r.end) x (known s kept))) j
           ∙ ap (λ xs. take i offsets ++ xs) (sym fields_split)
           ∙ w.done
           );
@@ -336,7 +347,7 @@ module _ {s : List ℕ} {kept : Extents} {packed n at : ℕ} {before : List ℕ}
       end = w.end;
     }
       where
-        as_join : with_field packed (extent_meant so) (extent_meant r.extent) ≡ join_of 0x50 packed (extent_meant so) (extent_meant r.extent)
+        as_join : with_field packed (members_meant so) (extent_meant r.extent) ≡ join_of 0x50 packed (members_meant so) (extent_meant r.extent)
         as_join = refl
 
 -- The answers.
@@ -373,6 +384,13 @@ module _ {s : List ℕ} {i at : ℕ} (d : Resolved s i at) (size a : ℕ) (befor
     unfolding answer_meant answer_of places_after
     place_written h after e = record { call = rw is_xs (record { answer = rw (as_many, le-leb n (length before) h); places = rw (as_many, le-leb n (length before) h) e }); extents = refl }
 
+-- what is kept of definition i once it is measured
+pub kept_is : {s : List ℕ} {n : ℕ} {places : List ℕ} → Table s n places → {i : ℕ} → i < n → {before kept : Extents} → Kept s (i ∷ []) before kept → (d : Option (Result Extent Unsized)) {r : Result Extent Unsized}
+    → r ≡ unwrap_or (get_or kept i d) (Err Circle) → extent_meant r ≡ definition_extent (bundle_of s) i
+kept_is tb {i = i} h {kept = kept} k d e =
+    let there : i < length kept = omega (arith, h, tb.count, tb.placed.room, k.keeps.size) in
+    ap extent_meant (e ∙ ap (λ o. unwrap_or o (Err Circle)) (get_or_default kept i d None there)) ∙ (k.now i (Memᴰ.head refl)).is
+
 -- definition i of an opened bundle
 module _ {s : List ℕ} {n : ℕ} {places : List ℕ} (tb : Table s n places) (i : ℕ) (before : List ℕ) where
   pub answered_none : n ≤ i → Answered s i before before (Err Varies)
@@ -381,7 +399,7 @@ module _ {s : List ℕ} {n : ℕ} {places : List ℕ} (tb : Table s n places) (i
       let z : lookup.type_at (bundle_of s) i ≡ nothing = no_definition (bundle_of s) i (omega (arith, tb.count)) in
       record { call = rw z (record { answer = refl; places = refl }); extents = tt }
 
-pub answered_unsized : (s : List ℕ) (i : ℕ) (before : List ℕ) (r : Refusal) → extent_meant (Err r) ≡ definition_extent (bundle_of s) i → Answered s i before before (Err r)
+pub answered_unsized : (s : List ℕ) (i : ℕ) (before : List ℕ) (r : Unsized) → extent_meant (Err r) ≡ definition_extent (bundle_of s) i → Answered s i before before (Err (reason r))
 unfolding extent_meant answer_meant answer_of places_after
 answered_unsized s i before r p = record { call = rw (← p) (record { answer = refl; places = refl }); extents = tt }
 

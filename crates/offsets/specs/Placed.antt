@@ -9,8 +9,11 @@ use Rattle.bundle.specs.View.{Reads}
 use Rattle.bundle.specs.Definitions.{type_at, members_at, bundle_of}
 use Rattle.fixed_meaning.specs.Extent.{Extent, sized, with_field}
 use Rattle.fixed_meaning.specs.Fixed.{measure, measure_all, extent_of, field_offsets, offsets_of, definition_extent, definition_offsets, given, sizing, placing}
+use Rattle.extents.specs.Meant.{mark}
 use Rattle.fixed_definitions.specs.Keeping.{Known, KeptExtents}
+use Rattle.meaning.specs.Tree.{Members}
 use Rattle.fixed.specs.Kept as keep
+use Rattle.fixed.specs.Walk.{members_of}
 use Rattle.offsets.specs.declared.Placement.{Placement}
 use Rattle.offsets.specs.declared.FieldList.{FieldList}
 use Rattle.refusal.specs.declared.Refusal.{Refusal}
@@ -49,9 +52,19 @@ pub record FieldsFrom (s : List ℕ) (p packed n m : ℕ) : Type 0 where
   pub offsets : (known : ℕ → Extent) → offsets_of (type_at 24 s p) known (λ n. []) ≡ field_offsets packed (members_at 23 0x50 n s m) (sized 0 1) known
   pub end : (known : ℕ → Extent) (size a : ℕ) → measure (type_at 24 s p) known ≡ sized size a → HasEnd (measure_all (with_field packed) (members_at 23 0x50 n s m) (sized 0 1) known)
 
+-- the fields of a list, how they are joined by the kept extents, and their offsets
+abbrev pub fields_in : List ℕ → FieldList → Members
+fields_in s f = members_at 23 0x50 f.count s f.at
+
+abbrev pub joined : List ℕ → keep.Extents → FieldList → Extent
+joined s kept f = members_of s kept 0x50 (mark f.packing) (fields_in s f) (sized 0 1)
+
+abbrev pub kept_offsets : List ℕ → keep.Extents → FieldList → List ℕ
+kept_offsets s kept f = field_offsets (mark f.packing) (fields_in s f) (sized 0 1) (keep.known s kept)
+
 -- the fields of the type at p, where it is a struct
 abbrev pub FieldsAre : List ℕ → ℕ → Option FieldList → Type 0
-FieldsAre s p (Some f) = FieldsFrom s p f.packed f.count f.at
+FieldsAre s p (Some f) = FieldsFrom s p (mark f.packing) f.count f.at
 FieldsAre s p None = (known : ℕ → Extent) → offsets_of (type_at 24 s p) known (λ n. []) ≡ []
 
 -- the answer for definition i of a bundle that was opened, and every place of the list

@@ -5,16 +5,15 @@ ghost use Rattle.std.specs.Prelude.{false, ◌++◌, ◌≡◌, ◌≤◌, ◌<�
 ghost use Rattle.meaning.specs.Circle.{circles};
 ghost use Rattle.meaning.specs.ReadType.{read_ty, read_members};
 ghost use Rattle.bundle.specs.View.{Reads};
-ghost use Rattle.bundle.specs.Definitions.{members_at, bundle_of, Table};
+ghost use Rattle.bundle.specs.Definitions.{bundle_of};
 ghost use Rattle.fixed_meaning.specs.Extent.{sized};
-ghost use Rattle.fixed_meaning.specs.Fixed.{field_offsets, definition_extent};
-ghost use Rattle.fixed.specs.Kept.{Sound, known};
-ghost use Rattle.fixed.specs.Walk.{members_of};
+ghost use Rattle.fixed_meaning.specs.Fixed.{definition_extent};
 ghost use Rattle.fixed_definitions.specs.Keeping.{Known, KeptExtents};
-ghost use Rattle.offsets.specs.Placed.{HasEnd, Answered, Placing, FixedCall, Resolved, FieldsAre};
+ghost use Rattle.offsets.specs.Placed.{HasEnd, joined, kept_offsets, Answered, Placing, FixedCall, Resolved, FieldsAre};
 
-use bundle::{Form, TypeForm};
-use extents::Extent;
+use bundle::{Definitions, MemberForm, TypeForm};
+use extents::{Extent, Packing, Unsized};
+use fixed::Extents;
 use refusal::Refusal;
 
 // The answer: size, alignment and the length of the list of offsets.
@@ -25,26 +24,34 @@ pub struct Placement {
     pub offsets: usize,
 }
 
-// The fields of a struct: packed, how many and where the first is.
+// The fields of a struct: how they are packed, how many there are and where the first is.
 #[derive(Clone, Copy)]
 struct FieldList {
-    packed: u8,
+    packing: Packing,
     count: usize,
     at: usize,
 }
 
+// That no definition leads back to itself is a clause: a struct of `Definitions` with it would be made in fixed_size alone and taken apart
+// by each of the three that ask for it.
+
 // Where the TypeRefs of a definition lead.
-fn resolved(s: &[u8], places: &[u16], count: usize, definition: usize) -> usize
-    requires { Table s.now count places.now × (definition < count) × (circles (bundle_of s.now) ≡ false) }
-    ensures { Resolved s.now definition result }
+fn resolved(definitions: &Definitions<'_>, definition: usize) -> usize
+    requires { (definition < definitions.now.count) × (circles (bundle_of definitions.now.bytes.now) ≡ false) }
+    ensures { Resolved definitions.now.bytes.now definition result }
 {
+    let Definitions {
+        bytes,
+        places,
+        count,
+    } = *definitions;
     let mut i = definition;
     for _ in 0..count {
         let at = places[i] as usize;
-        if !scan::leads(s, at) {
+        if !scan::leads(bytes, at) {
             return at;
         }
-        let Some(j) = lookup::definition_of(s, places, count, bundle::u16_at(s, at + 1)) else {
+        let Some(j) = lookup::definition_of(definitions, bundle::u16_at(bytes, at + 1)) else {
             return at;
         };
         i = j;
@@ -53,79 +60,75 @@ fn resolved(s: &[u8], places: &[u16], count: usize, definition: usize) -> usize
 }
 
 // The fields of the type that was read at `at`, where it is a struct.
+#[tactic(auto, using(bundle::proofs::TypeTrees::type_there, bundle::proofs::Parts::type_opened, crate::proofs::PlacingLaws::struct_there), unfolding(bundle::specs::View::type_form_meant))]
 fn fields_at(s: &[u8], at: usize) -> Option<FieldList>
     requires { Reads (read_ty 24 s.now at) }
     ensures { FieldsAre s.now at result }
 {
-    let Form::OfType(t) = bundle::form_of(s[at]) else {
+    if !bundle::type_is(s, at, TypeForm::Struct) {
         return None;
-    };
-    let TypeForm::Struct = t else {
-        return None;
-    };
+    }
     Some(FieldList {
-        packed: s[at + 1],
+        packing: extents::packing_of(s[at + 1]),
         count: bundle::u16_at(s, at + 10) as usize,
         at: at + 12,
     })
 }
 
-// Writes the offsets of these fields, of a struct that is fixed.
+// Writes the offsets of these fields, of a struct that is fixed. fixed::measure_members has the like of the loop: one for both would take
+// `|i, so, m| { offsets[i] = ..; with_field(..) }`, whose contract says of each i what the loop's invariant says here.
 fn write_offsets(
-    s: &[u8],
-    places: &[u16],
-    count: usize,
-    kept: &[Option<Result<Extent, Refusal>>],
+    definitions: &Definitions<'_>,
+    kept: &Extents,
     fields: FieldList,
     offsets: &mut [u32],
 )
-    requires table { Table s.now count places.now × Sound kept.now × Reads (read_members (read_ty 23) 0x50 fields.count s.now fields.at) }
-    requires n_in_bounds { (fields.count ≤ length offsets.old) × (fields.count < 65536) × HasEnd (members_of s.now kept.now 0x50 fields.packed (members_at 23 0x50 fields.count s.now fields.at) (sized 0 1)) }
-    ensures { offsets.new ≡ field_offsets fields.packed (members_at 23 0x50 fields.count s.now fields.at) (sized 0 1) (known s.now kept.now) ++ drop fields.count offsets.old }
+    requires fields_read { Reads (read_members (read_ty 23) 0x50 fields.count definitions.now.bytes.now fields.at) }
+    requires in_bounds { (fields.count ≤ length offsets.old) × (fields.count < 65536) }
+    requires ended { HasEnd (joined definitions.now.bytes.now kept.now fields) }
+    ensures { offsets.new ≡ kept_offsets definitions.now.bytes.now kept.now fields ++ drop fields.count offsets.old }
 {
-    let form = bundle::form_of(0x50);
-    let mut so = Ok(Extent {
-        size: 0,
-        alignment: 1,
-    });
+    let mut so = Ok(extents::NONE);
     let mut next = fields.at;
     for i in 0..fields.count {
-        let Ok(body) = bundle::member_head_at(s, next, 0x50, form) else {
-            return;
-        };
-        let m = fixed::measure_type(s, places, count, kept, body, bundle::DEPTH_INSIDE);
-        offsets[i] = extents::field_offset(fields.packed, so, m.extent) as u32;
-        so = extents::with_field(fields.packed, so, m.extent);
+        let m = fixed::measure_member(
+            definitions,
+            kept,
+            next,
+            bundle::DEPTH_INSIDE,
+            MemberForm::Field,
+        );
+        offsets[i] = extents::field_offset(fields.packing, so, m.extent) as u32;
+        so = extents::with_field(fields.packing, so, m.extent);
         next = m.end;
     }
 }
 
 // The answer for a definition of this extent.
 fn place(
-    s: &[u8],
-    places: &[u16],
-    count: usize,
-    kept: &[Option<Result<Extent, Refusal>>],
+    definitions: &Definitions<'_>,
+    kept: &Extents,
     definition: usize,
     extent: Extent,
     offsets: &mut [u32],
 ) -> Result<Placement, Refusal>
-    requires table { Table s.now count places.now × (definition < count) × (circles (bundle_of s.now) ≡ false) }
-    requires kept_extents { KeptExtents s.now kept.now × Known s.now kept.now definition × (definition_extent (bundle_of s.now) definition ≡ sized extent.size extent.alignment) }
-    ensures { Placing s.now definition extent.size extent.alignment offsets.old offsets.new result }
+    requires below { (definition < definitions.now.count) × (circles (bundle_of definitions.now.bytes.now) ≡ false) }
+    requires kept_extents { KeptExtents definitions.now.bytes.now kept.now × Known definitions.now.bytes.now kept.now definition }
+    requires extent_is { definition_extent (bundle_of definitions.now.bytes.now) definition ≡ sized extent.size extent.alignment }
+    ensures { Placing definitions.now.bytes.now definition extent.size extent.alignment offsets.old offsets.new result }
 {
     let bare = Placement {
         size: extent.size,
         alignment: extent.alignment,
         offsets: 0,
     };
-    let Some(fields) = fields_at(s, resolved(s, places, count, definition)) else {
+    let Some(fields) = fields_at(definitions.bytes, resolved(definitions, definition)) else {
         return Ok(bare);
     };
     if offsets.len() < fields.count {
         return Err(Refusal::NoRoom);
     }
-    write_offsets(s, places, count, kept, fields, offsets);
+    write_offsets(definitions, kept, fields, offsets);
     Ok(Placement {
         offsets: fields.count,
         ..bare
@@ -134,22 +137,21 @@ fn place(
 
 // The answer for a definition of an opened bundle.
 fn fixed_opened(
-    s: &[u8],
-    places: &[u16],
-    count: usize,
+    definitions: &Definitions<'_>,
     definition: usize,
     offsets: &mut [u32],
 ) -> Result<Placement, Refusal>
-    requires { Table s.now count places.now × (circles (bundle_of s.now) ≡ false) }
-    ensures { Answered s.now definition offsets.old offsets.new result }
+    requires { circles (bundle_of definitions.now.bytes.now) ≡ false }
+    ensures { Answered definitions.now.bytes.now definition offsets.old offsets.new result }
 {
+    let count = definitions.count;
     if count <= definition {
         return Err(Refusal::Varies);
     }
     let mut kept = [None; bundle::DEFINITIONS];
-    fixed_definitions::measure_definition(s, places, count, &mut kept, definition, count);
-    let extent = kept[definition].unwrap_or(Err(Refusal::Varies))?;
-    place(s, places, count, &kept, definition, extent, offsets)
+    fixed_definitions::measure_definition(definitions, &mut kept, definition, count);
+    let extent = kept[definition].unwrap_or(Err(Unsized::Circle))?;
+    place(definitions, &kept, definition, extent, offsets)
 }
 
 // The size and alignment of definition `definition`, and in `offsets` the offsets of its fields where it is a struct, also by TypeRefs.
@@ -162,5 +164,10 @@ pub fn fixed_size(
 {
     let mut places = [0u16; bundle::PLACES];
     let layout = acceptance::open(bundle, &mut places)?;
-    fixed_opened(bundle, &places, layout.definitions, definition, offsets)
+    let definitions = Definitions {
+        bytes: bundle,
+        places: &places,
+        count: layout.definitions,
+    };
+    fixed_opened(&definitions, definition, offsets)
 }

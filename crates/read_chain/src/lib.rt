@@ -1,4 +1,5 @@
 // The chains to one name read off the search for them: where each chain goes on is said by hops, which are set when the first is read off.
+// Facts, bounds and parameters stand one by one, for the reason that search gives.
 #![tactic(auto)]
 
 ghost use Rattle.std.specs.Prelude.{◌≡◌, map, ℕ, suc, ◌+◌, ◌*◌, ◌≤◌, ◌<◌, length, get_or, take};
@@ -48,30 +49,8 @@ fn fill(edges: &[u16], count: usize, x: usize, n: usize, work: &mut [u16])
     }
 }
 
-// The chain from the number `x`, for which the search is settled, into the list if it is wanted there.
-fn chain_from(
-    edges: &[u16],
-    count: usize,
-    x: usize,
-    wanted: bool,
-    work: &mut [u16],
-) -> Option<usize>
-    requires { Indexed count edges.now × ((to : ℕ) × Lent count edges.now to work.old) × (get_or work.old 0 0 ≡ 0 → ⊥) × (x < names_in edges.now) × Settled count edges.now x work.old }
-    ensures { (to : ℕ) → Lent count edges.now to work.old → IfWanted wanted (list_in count work.new) (λ list. Answers (chain_of (named count edges.now) (name_in count edges.now x) to) list result) × Lent count edges.now to work.new }
-{
-    let n = work[3 * x + 1] as usize;
-    if n == 0 {
-        return None;
-    }
-    if wanted {
-        with_hops(edges, count, work);
-        fill(edges, count, x, n, work);
-    }
-    Some(n)
-}
-
-// Makes the search to the name `to` as far as the chain from the number `x` asks for: until `x` is marked where only the name itself is, and
-// to its end where others are marked and `x` is not. So the edges to one entry at most are followed twice, and hops set twice at most.
+// Makes the search to the name `to` as far as the chain from the number `x` asks for: until `x` is marked where only the name itself is,
+// and to its end where others are marked and `x` is not. So the edges to one entry at most are followed twice, and hops set twice at most.
 fn ready(edges: &[u16], count: usize, x: usize, to: u16, work: &mut [u16])
     requires { Indexed count edges.now × Lent count edges.now to work.old × (x < names_in edges.now) }
     ensures { Lent count edges.now to work.new × (get_or work.new 0 0 ≡ 0 → ⊥) × Settled count edges.now x work.new }
@@ -93,8 +72,9 @@ fn ready(edges: &[u16], count: usize, x: usize, to: u16, work: &mut [u16])
 }
 
 // The chain from `from` to `to` over `count` prepared edges, into the list if it is wanted there. All calls with the same slice `work` are
-// to one name, and each goes on with the search of those before it; place 0 of the slice is 0 before the first, and what else it holds is free.
-// Whether it is wanted is known when the call runs: a function for each would put one more `if` in front of each call and each contract.
+// to one name, and each goes on with the search of those before it; place 0 of the slice is 0 before the first, and what else it holds is
+// free. Whether it is wanted is known when the call runs: a function for each would put one more `if` in front of each call and each
+// contract.
 pub fn find(
     edges: &[u16],
     count: usize,
@@ -113,5 +93,13 @@ pub fn find(
     let m = edges[0] as usize;
     let x = table::place_of::<{ chain::BUCKETS }>(edges, 5 * count + 1, m, from)?;
     ready(edges, count, x, to, work);
-    chain_from(edges, count, x, wanted, work)
+    let n = work[3 * x + 1] as usize;
+    if n == 0 {
+        return None;
+    }
+    if wanted {
+        with_hops(edges, count, work);
+        fill(edges, count, x, n, work);
+    }
+    Some(n)
 }

@@ -2,12 +2,11 @@
 #![tactic(auto)]
 
 ghost use Rattle.std.specs.Prelude.{◌≡◌, ◌+◌, ◌*◌};
-ghost use Rattle.meaning.specs.Kinds.{form_of};
 ghost use Rattle.meaning.specs.ReadBundle.{opening, read_definition, read_header};
-ghost use Rattle.bundle.specs.View.{record_before, record_names, record_behind, form_meant, step_of};
+ghost use Rattle.bundle.specs.View.{record_kind, record_before, record_names, record_behind, step_of};
 ghost use Rattle.records.specs.Header.{counts_of};
 
-use bundle::{Form, RecordForm};
+use bundle::RecordForm;
 use refusal::Refusal;
 
 // The numbers of definitions and edges that the header has, and where it ends.
@@ -29,24 +28,19 @@ fn record_length(form: RecordForm) -> usize
     }
 }
 
-// The body of the header, definition or edge at `at`, whose kind must be `kind`, of this form, and whose body must be whole.
-pub fn opening_at(s: &[u8], at: usize, kind: u8, form: Form) -> Result<usize, Refusal>
-    requires { form_meant form ≡ form_of kind }
-    ensures { result ≡ step_of (opening kind s.now at) }
+// The kind byte of a header, definition or edge.
+fn record_kind(form: RecordForm) -> u8
+    ensures { result ≡ record_kind form }
 {
-    if s.len() <= at {
-        return Err(Refusal::Short);
-    }
-    if s[at] != kind {
-        return Err(Refusal::WrongKind);
-    }
-    let Form::OfRecord(record) = form else {
-        return Err(Refusal::WrongKind);
-    };
-    let body = at + 1;
-    if s.len() - body < record_length(record) {
-        return Err(Refusal::Short);
-    }
+    form as u8
+}
+
+// The body of the header, definition or edge at `at`, which must be whole.
+pub fn opening_at(s: &[u8], at: usize, form: RecordForm) -> Result<usize, Refusal>
+    ensures { result ≡ step_of (opening (record_kind form) s.now at) }
+{
+    let body = bundle::behind_kind(s, at, record_kind(form))?;
+    bundle::skip_bytes(s, body, record_length(form))?;
     Ok(body)
 }
 
@@ -55,7 +49,7 @@ pub fn opening_at(s: &[u8], at: usize, kind: u8, form: Form) -> Result<usize, Re
 pub fn definition_at(s: &[u8], at: usize) -> Result<usize, Refusal>
     ensures { result ≡ step_of (read_definition s.now at) }
 {
-    let body = opening_at(s, at, 0x61, bundle::form_of(0x61))?;
+    let body = opening_at(s, at, RecordForm::Definition)?;
     bundle::type_at(s, body + 2, bundle::DEPTH_LIMIT)
 }
 
@@ -64,7 +58,7 @@ pub fn definition_at(s: &[u8], at: usize) -> Result<usize, Refusal>
 pub fn header_at(s: &[u8]) -> Result<Header, Refusal>
     ensures { result ≡ counts_of (read_header s.now 0) }
 {
-    let body = opening_at(s, 0, 0x60, bundle::form_of(0x60))?;
+    let body = opening_at(s, 0, RecordForm::Header)?;
     let definitions = bundle::u16_at(s, body);
     let edges = bundle::u16_at(s, body + 2);
     if bundle::DEFINITION_LIMIT < definitions {

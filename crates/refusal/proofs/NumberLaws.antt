@@ -65,5 +65,5 @@ number_forth (suc (suc (suc (suc (suc (suc (suc (suc (suc (suc (suc (suc (suc (s
 number_forth (suc (suc (suc (suc (suc (suc (suc (suc (suc (suc (suc (suc (suc (suc (suc (suc n)))))))))))))))) low high = absurd (omega arith)
 
 -- what `?` hands on
-pub handed_on : {T : Type 0} {e : Refusal} (r : Result T Refusal) → IsErrAnd r (λ y. y ≡ e) → r ≡ Err e
+pub handed_on : {T E : Type 0} {e : E} (r : Result T E) → IsErrAnd r (λ y. y ≡ e) → r ≡ Err e
 handed_on r h = let p = err_from_is_err_and r h in p.1 ∙ ap Err p.2

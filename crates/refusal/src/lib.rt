@@ -3,6 +3,7 @@
 
 ghost use Rattle.std.specs.Prelude.{◌≡◌};
 ghost use Rattle.refusal.specs.Numbers.{number};
+ghost use Rattle.refusal.specs.Decoding.{Decodes};
 ghost use Rattle.refusal.specs.Laws.{Numbered};
 
 #[derive(Clone, Copy, Debug, PartialEq, Eq, PartialOrd, Ord)]
@@ -59,6 +60,37 @@ impl From<Refusal> for u8 {
             Refusal::ZeroDivisor => 13,
             Refusal::OutOfRange => 14,
             Refusal::NotCovered => 15,
+        }
+    }
+}
+
+// A number that no refusal has.
+#[derive(Clone, Copy, Debug, PartialEq, Eq)]
+pub struct NoRefusal(pub u8);
+
+impl TryFrom<u8> for Refusal {
+    type Error = NoRefusal;
+
+    ghost try_from_gives = { Decodes };
+
+    fn try_from(n: u8) -> Result<Self, NoRefusal> {
+        match n {
+            1 => Ok(Refusal::TooLong),
+            2 => Ok(Refusal::Short),
+            3 => Ok(Refusal::WrongKind),
+            4 => Ok(Refusal::WrongValue),
+            5 => Ok(Refusal::TooMany),
+            6 => Ok(Refusal::TooDeep),
+            7 => Ok(Refusal::Trailing),
+            8 => Ok(Refusal::Circle),
+            9 => Ok(Refusal::NoRoom),
+            10 => Ok(Refusal::WrongAlignment),
+            11 => Ok(Refusal::Varies),
+            12 => Ok(Refusal::TooLarge),
+            13 => Ok(Refusal::ZeroDivisor),
+            14 => Ok(Refusal::OutOfRange),
+            15 => Ok(Refusal::NotCovered),
+            _ => Err(NoRefusal(n)),
         }
     }
 }

@@ -20,8 +20,8 @@ use Rattle.meaning.proofs.ExprSpans.{Spans, both}
 use Rattle.meaning.proofs.ExprBack.{Starts, follows}
 use Rattle.meaning.proofs.BundleSpans.{header_spans, definition_spans, edge_spans, list_spans}
 use Rattle.meaning.proofs.BundleBack.{header_bytes, header_back, definition_back, edge_back, list_back}
-use Rattle.refusals.specs.Numbers.{fault_of, number_of, Trailing}
-use Rattle.refusals.proofs.Faults.{Only, definitions_only, edges_only, header_only}
+use Rattle.refusals.specs.Numbers.{Only, fault_of, number_of, Trailing}
+use Rattle.refusals.proofs.Faults.{Among, definitions_only, edges_only, header_only}
 use Rattle.meaning.proofs.ReadWithin.{list_within, definition_within, edge_within, header_within}
 
 -- where a reading that goes on after another was refused
@@ -36,6 +36,9 @@ stopped (refused j) f s k e = first (cc)
 -- no fault but 7
 abbrev Other : ℕ → Type 0
 Other k = k ≡ 7 → ⊥
+
+others : Among Other
+others = record { short = λ z. omega arith; stranger = λ z. omega arith; off = λ z. omega arith; buried = λ z. omega arith }
 
 pub never : {A B : Type 0} {a : A} {n k : ℕ} → ok a n ≡ refused k → B
 never e = let z : ◌≡◌ {A = ℕ} 0 1 = cc in absurd (omega arith)
@@ -69,7 +72,7 @@ module _ (s : List ℕ) where
       inner es n p (then u i q r) = never r
 
       go : Stopped (many ◌∷◌ [] read_edge m s at) (λ es t n. after (end t n) (λ u w i. ok es i) t) s 7 → EdgesLeft m at
-      go (first p) = not_seven (many ◌∷◌ [] read_edge m s at) (edges_only Other (λ z. omega arith) (λ z. omega arith) (λ z. omega arith) (λ z. omega arith) s m at) p
+      go (first p) = not_seven (many ◌∷◌ [] read_edge m s at) (edges_only Other others s m at) p
       go (then es n p q) = inner es n p (stopped (end s n) _ s 7 q)
 
   -- so were the definitions
@@ -88,7 +91,7 @@ module _ (s : List ℕ) where
       inner ds n p (then es i q r) = never r
 
       go : Stopped {B = List Definition × List Edge} (many ◌∷◌ [] read_definition d s at) (λ ds t n. after (read_edges m t n) (λ es w i. ok (ds, es) i) t) s 7 → RestLeft d m at
-      go (first p) = not_seven (many ◌∷◌ [] read_definition d s at) (definitions_only Other (λ z. omega arith) (λ z. omega arith) (λ z. omega arith) (λ z. omega arith) s d at) p
+      go (first p) = not_seven (many ◌∷◌ [] read_definition d s at) (definitions_only Other others s d at) p
       go (then ds n p q) = inner ds n p (stopped (read_edges m s n) _ s 7 q)
 
   -- and the header
@@ -110,7 +113,7 @@ module _ (s : List ℕ) where
       inner h n p (then r i q z) = never z
 
       go : Stopped (read_header s 0) (λ h t n. after (read_rest h.definitions h.edges t n) (λ r w i. ok (bundle_of h r) i) t) s 7 → AllLeft
-      go (first p) = not_seven (read_header s 0) (header_only Other (λ z. omega arith) (λ z. omega arith) (λ z. omega arith) (λ z. omega arith) s (λ z. omega arith) 0) p
+      go (first p) = not_seven (read_header s 0) (header_only Other others s (λ z. omega arith) 0) p
       go (then h n p q) = inner h n p (stopped (read_rest h.definitions h.edges s n) _ s 7 q)
 
   module _ (bytes : Bytes s) (small : length s ≤ size_limit) where

@@ -5,7 +5,7 @@ use mathlib.Core.Path.{subst}
 use mathlib.Core.List.{List, [], ◌∷◌, ◌++◌, map}
 use lib.ListN.{length}
 use Rattle.names.specs.Names.{Below}
-use Rattle.names.specs.Documents.{Item, byte, name, bytes, Document}
+use Rattle.names.specs.Documents.{Item, byte, name, Document}
 use Rattle.names.proofs.Documents.{bytes_below}
 use Rattle.meaning.specs.Lists.{flat_map}
 use Rattle.meaning.specs.Tree.{Expr, literal, field_ref, sizeof, alignof, binary, unary, Attributes}

@@ -18,6 +18,11 @@ pub record Keeps (s : List ℕ) (b : Bundle) : Type 0 where
   pub bundle : IsBundle s b
   pub no_circle : (i : ℕ) → Leads b i i → ⊥
 
+-- every number with which this was refused is one of P
+abbrev pub Only : (ℕ → Type 0) → {A : Type 0} → Read A → Type 0
+Only P (ok a n) = Unit {0}
+Only P (refused k) = P k
+
 -- the number of the first fault, and 8 where there is none
 abbrev pub fault_of : Read Bundle → ℕ
 fault_of (ok b n) = 8

@@ -1,23 +1,9 @@
 -- The parts of a body that are left, by their numbers: bytes, then names, then bytes.
 use Prim.Native.Nat.{ℕ, zero, suc, ◌-◌, ◌≤◌, ◌<◌}
 use native.Mathlib.Omega.{arith}
-use mathlib.Core.Bool.{false}
 use mathlib.Core.Path.{◌≡◌, refl}
-use lib.Dec.{ltb}
-use borrow.Author.Tests.{lt-ltb}
 use Rattle.meaning.specs.Kinds.{parts, body}
-use Rattle.renumber.specs.Scan.{name_first, behind}
-
--- a name comes first where no byte does
-pub name_first_lem : (a b c : ℕ) → a ≡ 0 → ltb 0 b ≡ name_first (parts a b c)
-name_first_lem zero zero zero e = refl
-name_first_lem zero zero (suc c) e = refl
-name_first_lem zero (suc b) c e = lt-ltb 0 (suc b) (omega arith)
-name_first_lem (suc a) b c e = absurd (omega arith)
-
-pub byte_first : (a b c : ℕ) → (a ≡ 0 → ⊥) → false ≡ name_first (parts a b c)
-byte_first zero b c e = absurd (e refl)
-byte_first (suc a) b c e = refl
+use Rattle.renumber.specs.Scan.{behind}
 
 -- what is behind the first part
 pub behind_byte : (a b c k : ℕ) → 0 < a → parts (a - 1) b c ≡ behind (parts a b c) k

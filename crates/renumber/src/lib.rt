@@ -21,6 +21,7 @@ use refusal::Refusal;
 struct Parts(u8, u8, u8);
 
 // The parts of the body of a record of this form.
+#[tactic(auto, unfolding(bundle::specs::View::form_meant, bundle::specs::View::expr_form_meant, bundle::specs::View::type_form_meant))]
 fn parts_of(form: Form) -> Parts
     ensures { due result ≡ form_parts (form_meant form) }
 {
@@ -42,7 +43,7 @@ fn parts_of(form: Form) -> Parts
             TypeForm::Array => Parts(10, 0, 0),
             TypeForm::SizeUnion => Parts(11, 0, 0),
         },
-        Form::OfMember(w) => Parts(0, 1, w),
+        Form::OfMember(m) => Parts(0, 1, bundle::value_width(m)),
         Form::OfRecord(r) => match r {
             RecordForm::Header => Parts(4, 1, 0),
             RecordForm::Definition => Parts(0, 1, 0),
@@ -59,7 +60,8 @@ fn name_due(left: Parts) -> bool
     left.0 == 0 && 0 < left.1
 }
 
-// What is left behind the next part; where nothing was left, the body of a record of this kind.
+// What is left behind the next part; where nothing was left, the body of a record of this kind. It gets the byte, not a form: most bytes
+// are no kinds, and their forms would be worked out for nothing.
 fn behind_next(left: Parts, kind: u8) -> Parts
     ensures { due result ≡ behind (due left) kind }
 {
@@ -75,8 +77,8 @@ fn behind_next(left: Parts, kind: u8) -> Parts
     parts_of(bundle::form_of(kind))
 }
 
-// Writes the number of the name at `at` to the same place of `out`: its place in the table, which has `next` names. Gives how many it has
-// then, which is the next number.
+// Writes the number of the name at `at` to the same place of `out`, so that `at` is a place of both: its place in the table, which has
+// `next` names. Gives how many it has then, which is the next number.
 fn put_name(s: &[u8], out: &mut [u8], table: &mut [u16], at: usize, next: usize) -> usize
     requires at_in_bounds { (at + 2 ≤ length s.now) × (length s.now ≤ length out.old) }
     requires members { Members table.old 0 buckets next × (buckets + 2 * next + 2 ≤ length table.old) × (next < 65535) }

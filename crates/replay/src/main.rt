@@ -5,21 +5,7 @@
 use std::io;
 use std::io::Read;
 
-// Whether the report of the bundle is the answer.
-fn reported(bundle: &[u8], due: &[u8]) -> bool {
-    let mut out = [0u8; 65536];
-    let answer = report::report(bundle, &mut out);
-    stored::is_due(answer, &out, due)
-}
-
-// The same for the renumbered bundle.
-fn renumbered(bundle: &[u8], due: &[u8]) -> bool {
-    let mut out = [0u8; 65536];
-    let answer = renumber::renumber(bundle, &mut out);
-    stored::is_due(answer, &out, due)
-}
-
-// The same for the size, alignment and offsets of a definition.
+// Whether the size, alignment and offsets of a definition are the answer.
 fn measured(bundle: &[u8], definition: usize, due: &[u8]) -> bool {
     let mut list = [0u32; 8192];
     match offsets::fixed_size(bundle, definition, &mut list) {
@@ -81,9 +67,10 @@ fn split_number(bytes: &[u8]) -> Option<(u16, &[u8])> {
 
 // Whether the answer to the question is the one that is due. The number of a definition, and the names of a chain, stand before the bundle.
 fn answered(question: Question, asked: &[u8], due: &[u8]) -> Option<bool> {
+    let mut out = [0u8; 65536];
     Some(match question {
-        Question::Report => reported(asked, due),
-        Question::Renumber => renumbered(asked, due),
+        Question::Report => stored::is_due(report::report(asked, &mut out), &out, due),
+        Question::Renumber => stored::is_due(renumber::renumber(asked, &mut out), &out, due),
         Question::Size => {
             let (definition, bundle) = split_number(asked)?;
             measured(bundle, usize::from(definition), due)

@@ -7,19 +7,20 @@ ghost use Rattle.bundle.specs.Opened.{answer_meant};
 
 use refusal::Refusal;
 
-// Places for the definitions, the fields and the references of a short bundle, and of any: three for every two bytes.
+// Places for the definitions, the fields and the references of a short bundle, and of any: three for every two bytes. A constant calls no
+// function here, so both are written out.
 const SHORT_PLACES: usize = field_index::PARTS_AT + (3 * bundle::SHORT_BYTES + 10) / 2;
 
 const PLACES: usize = field_index::PARTS_AT + (3 * bundle::BYTE_LIMIT + 10) / 2;
 
-// Writes the report of a bundle of any length.
+// Writes the report of a bundle of any length. It is no instance of one function with `report`: that one also turns away many edges.
 fn report_long(bundle: &[u8], out: &mut [u8]) -> Result<usize, Refusal>
     ensures { Call (reporting bundle.now) out.old out.new (answer_meant result) }
 {
     let mut places = [0u16; PLACES];
     let layout = acceptance::open(bundle, &mut places)?;
-    notes::note(bundle, &mut places, layout);
-    report_opened::report_in::<{ chain::PLACES }, { search::PLACES }>(bundle, &places, layout, out)
+    let notes = notes::notes_of(bundle, &mut places, layout);
+    report_opened::report_in::<{ chain::PLACES }, { search::PLACES }>(&notes, out)
 }
 
 // Writes the report of a bundle into the first places of `out`. A refusal writes nothing. A short bundle with few edges is not worth
@@ -36,8 +37,6 @@ pub fn report(bundle: &[u8], out: &mut [u8]) -> Result<usize, Refusal>
     if chain::FEW_EDGES < layout.edges {
         return report_long(bundle, out);
     }
-    notes::note(bundle, &mut short, layout);
-    report_opened::report_in::<{ chain::FEW_PLACES }, { search::FEW_PLACES }>(
-        bundle, &short, layout, out,
-    )
+    let notes = notes::notes_of(bundle, &mut short, layout);
+    report_opened::report_in::<{ chain::FEW_PLACES }, { search::FEW_PLACES }>(&notes, out)
 }

@@ -1,5 +1,5 @@
 -- What the program writes for an order and a bundle.
-use Rattle.std.specs.Prelude.{ℕ, ◌≤◌, Bool, true, false, List, [], ◌∷◌, ◌++◌, ◌≡◌, length, take}
+use Rattle.std.specs.Prelude.{ℕ, ◌≤◌, List, [], ◌∷◌, ◌++◌, ◌≡◌, length, take, Result, Ok, Err}
 use Rattle.decimal.specs.Decimal.{lines, signed_line}
 use Rattle.meaning.specs.Calls.{Answer, accepted, refused_with, Outcome, result, refusal, answer_of}
 use Rattle.meaning.specs.Due.{reporting, renumbering, chaining}
@@ -8,8 +8,10 @@ use Rattle.fixed_meaning.specs.Fixed.{sizing, placing}
 use Rattle.fixed_meaning.specs.Value as meaning
 use Rattle.fixed_meaning.specs.Value.{valued, unvalued}
 use Rattle.fixed_meaning.specs.Valuing.{valuing}
+use Rattle.refusal.specs.declared.Refusal.{Refusal}
+use Rattle.refusal.specs.Numbers.{number}
 use Rattle.words.specs.declared.Order.{Order}
-use Rattle.words.specs.declared.Order.TheVariants.{Report, Renumber, Chain, Followed, Size, Value, Help, Wrong}
+use Rattle.words.specs.declared.Order.TheVariants.{Report, Renumber, Chain, Followed, Size, Value, Help}
 
 -- a refusal: 7E and its number
 abbrev pub refusal_bytes : ℕ → List ℕ
@@ -29,11 +31,6 @@ response_to o lent = written (answer_of o lent) o
 abbrev pub numbers_of : Outcome → List ℕ
 numbers_of (result numbers) = numbers
 numbers_of (refusal k) = []
-
--- a count, if it is asked for
-abbrev pub count_for : Bool → Outcome → List ℕ
-count_for true o = numbers_of o
-count_for false o = []
 
 -- the count and the names of a chain, each to a line in decimal, or the refusal
 unfoldable pub lines_to : List ℕ → Outcome → List ℕ
@@ -63,9 +60,13 @@ answer_to (Followed from to) s = lines_to (numbers_of (following from to s)) (ch
 answer_to (Size definition) s = size_to (sizing definition s) (placing definition s) 8192
 answer_to (Value definition) s = value_to (valuing definition s)
 answer_to Help s = []
-answer_to Wrong s = []
 
 -- the text stands in the first r places
 pub record Holds (text places : List ℕ) (r : ℕ) : Type 0 where
   pub within : r ≤ length places
   pub first : take r places ≡ text
+
+-- the same, or the refusal for which it stands
+abbrev pub Gives : List ℕ → Result ℕ Refusal → List ℕ → Type 0
+Gives text (Ok r) places = Holds text places r
+Gives text (Err k) places = text ≡ refusal_bytes (number k)

@@ -2,17 +2,13 @@
 // names, the size of a definition, or the value of an array's size; for a refused bundle 7E and the number of its refusal.
 #![tactic(auto)]
 
-ghost use Rattle.std.specs.Prelude.{List, [], ◌∷◌, ℕ, ◌≤◌, length};
-ghost use Rattle.meaning.specs.Calls.{Outcome, Call};
-ghost use Rattle.meaning.specs.Calls as calls;
-ghost use Rattle.meaning.specs.Due.{reporting, renumbering, chaining};
-ghost use Rattle.decimal.specs.Decimal.{lines, Writes};
+ghost use Rattle.std.specs.Prelude.{[], ◌≤◌, length};
+ghost use Rattle.meaning.specs.Due.{chaining};
 ghost use Rattle.followed.specs.Followed.{following};
 ghost use Rattle.fixed_meaning.specs.Fixed.{sizing, placing};
 ghost use Rattle.fixed_meaning.specs.Valuing.{valuing};
 ghost use Rattle.refusal.specs.Numbers.{number};
-ghost use Rattle.bundle.specs.Opened.{answer_meant};
-ghost use Rattle.responses.specs.Response.{refusal_bytes, response_to, count_for, lines_to, size_to, value_to, answer_to, Holds};
+ghost use Rattle.responses.specs.Response.{refusal_bytes, numbers_of, lines_to, size_to, value_to, answer_to, Holds, Gives};
 
 use refusal::Refusal;
 use words::Order;
@@ -26,7 +22,7 @@ const FIELD_ROOM: usize = 8192;
 // Room for all that is written: for offsets, lines of 11 bytes behind two of 21.
 pub const ROOM: usize = 98304;
 
-// Puts 7E and the number of a refusal into the first places of `out`. Returns how many bytes that are, as all functions here do.
+// Puts 7E and the number of a refusal into the first places of `out`. Returns how many bytes that are.
 fn put_refusal(refusal: Refusal, out: &mut [u8]) -> usize
     requires { 2 ≤ length out.old }
     ensures { Holds (refusal_bytes (number refusal)) out.new result }
@@ -36,106 +32,71 @@ fn put_refusal(refusal: Refusal, out: &mut [u8]) -> usize
     2
 }
 
-// What a call left in `out`, or the refusal that it answered.
-fn finish(answer: Result<usize, Refusal>, out: &mut [u8]) -> usize
-    requires { 2 ≤ length out.old }
-    ensures { (o : Outcome) (before : List ℕ) → Call o before out.old (answer_meant answer) → Holds (response_to o (length before)) out.new result }
-{
-    match answer {
-        Ok(n) => n,
-        Err(refusal) => put_refusal(refusal, out),
-    }
-}
-
-// The report.
-fn respond(bundle: &[u8], out: &mut [u8]) -> usize
-    requires { 65536 ≤ length out.old }
-    ensures { Holds (response_to (reporting bundle.now) 65536) out.new result }
-{
-    let room = &mut out[..REPORT_ROOM];
-    let answer = report::report(bundle, room);
-    finish(answer, room)
-}
-
-// The bundle with its names renumbered.
-fn respond_renumbered(bundle: &[u8], out: &mut [u8]) -> usize
-    requires { 65536 ≤ length out.old }
-    ensures { Holds (response_to (renumbering bundle.now) 65536) out.new result }
-{
-    let room = &mut out[..REPORT_ROOM];
-    let answer = renumber::renumber(bundle, room);
-    finish(answer, room)
-}
-
-// Puts the count of followed names onto a line, if it is asked for.
-fn put_count(counted: bool, followed: usize, out: &mut [u8]) -> usize
-    requires { 21 ≤ length out.old }
-    ensures { Writes (lines (count_for counted (calls.result (followed ∷ [])))) out.old 0 out.new result × (result ≤ 21) }
-{
-    if counted {
-        return decimal::put_line(out, 0, followed as u64);
-    }
-    0
-}
-
-// The names of the chain, each to a line, behind the count of followed names if it is asked for.
-fn respond_chain(bundle: &[u8], from: u16, to: u16, counted: bool, out: &mut [u8]) -> usize
-    requires { 6171 ≤ length out.old }
-    ensures { Holds (lines_to (count_for counted (following from to bundle.now)) (chaining from to bundle.now)) out.new result }
+// The names of the chain, each to a line. Returns how many bytes that are, as all functions below do, or the refusal.
+fn respond_chain(bundle: &[u8], from: u16, to: u16, out: &mut [u8]) -> Result<usize, Refusal>
+    requires { 6150 ≤ length out.old }
+    ensures { Gives (lines_to [] (chaining from to bundle.now)) result out.new }
 {
     let mut list = [0u16; bundle::CHAIN_LIMIT];
-    let answer = find_chain::find_layout_dependency_chain(bundle, from, to, &mut list);
-    match answer {
-        Ok(listed) => {
-            let first = put_count(counted, listed.followed, out);
-            decimal::write_numbers(&list[..listed.names], out, first)
-        }
-        Err(refusal) => put_refusal(refusal, out),
-    }
+    let listed = find_chain::find_layout_dependency_chain(bundle, from, to, &mut list)?;
+    Ok(decimal::write_numbers(&list[..listed.names], out, 0))
+}
+
+// The same behind the count of followed names.
+fn respond_followed(bundle: &[u8], from: u16, to: u16, out: &mut [u8]) -> Result<usize, Refusal>
+    requires { 6171 ≤ length out.old }
+    ensures { Gives (lines_to (numbers_of (following from to bundle.now)) (chaining from to bundle.now)) result out.new }
+{
+    let mut list = [0u16; bundle::CHAIN_LIMIT];
+    let listed = find_chain::find_layout_dependency_chain(bundle, from, to, &mut list)?;
+    let first = decimal::put_line(out, 0, listed.followed as u64);
+    Ok(decimal::write_numbers(&list[..listed.names], out, first))
 }
 
 // The size, the alignment and the offsets of a definition, each to a line.
-fn respond_size(bundle: &[u8], definition: u16, out: &mut [u8]) -> usize
+fn respond_size(bundle: &[u8], definition: u16, out: &mut [u8]) -> Result<usize, Refusal>
     requires { 90154 ≤ length out.old }
-    ensures { Holds (size_to (sizing definition bundle.now) (placing definition bundle.now) 8192) out.new result }
+    ensures { Gives (size_to (sizing definition bundle.now) (placing definition bundle.now) 8192) result out.new }
 {
     let mut list = [0u32; FIELD_ROOM];
-    let answer = offsets::fixed_size(bundle, usize::from(definition), &mut list);
-    match answer {
-        Ok(placement) => {
-            let second = decimal::put_line(out, 0, placement.size);
-            let third = decimal::put_line(out, second, placement.alignment);
-            decimal::write_numbers(&list[..placement.offsets], out, third)
-        }
-        Err(refusal) => put_refusal(refusal, out),
-    }
+    let placement = offsets::fixed_size(bundle, usize::from(definition), &mut list)?;
+    let second = decimal::put_line(out, 0, placement.size);
+    let third = decimal::put_line(out, second, placement.alignment);
+    Ok(decimal::write_numbers(&list[..placement.offsets], out, third))
 }
 
 // The value of the size of a definition, on a line.
-fn respond_value(bundle: &[u8], definition: u16, out: &mut [u8]) -> usize
+fn respond_value(bundle: &[u8], definition: u16, out: &mut [u8]) -> Result<usize, Refusal>
     requires { 21 ≤ length out.old }
-    ensures { Holds (value_to (valuing definition bundle.now)) out.new result }
+    ensures { Gives (value_to (valuing definition bundle.now)) result out.new }
 {
-    let value = size_value::size_value(bundle, usize::from(definition));
-    match value {
-        Ok(n) => decimal::put_signed(out, 0, n),
-        Err(refusal) => put_refusal(refusal, out),
-    }
+    let value = size_value::size_value(bundle, usize::from(definition))?;
+    Ok(decimal::put_signed(out, 0, value))
 }
 
 // What an order gets for a bundle.
+fn respond(order: Order, bundle: &[u8], out: &mut [u8]) -> Result<usize, Refusal>
+    requires { 90154 ≤ length out.old }
+    ensures { Gives (answer_to order bundle.now) result out.new }
+{
+    match order {
+        Order::Report => report::report(bundle, &mut out[..REPORT_ROOM]),
+        Order::Renumber => renumber::renumber(bundle, &mut out[..REPORT_ROOM]),
+        Order::Chain(from, to) => respond_chain(bundle, from, to, out),
+        Order::Followed(from, to) => respond_followed(bundle, from, to, out),
+        Order::Size(definition) => respond_size(bundle, definition, out),
+        Order::Value(definition) => respond_value(bundle, definition, out),
+        Order::Help => Ok(0),
+    }
+}
+
+// The same, or the refusal, as bytes in the first places of `out`.
 pub fn answer(order: Order, bundle: &[u8], out: &mut [u8]) -> usize
     requires { 90154 ≤ length out.old }
     ensures { Holds (answer_to order bundle.now) out.new result }
 {
-    match order {
-        Order::Report => respond(bundle, out),
-        Order::Renumber => respond_renumbered(bundle, out),
-        Order::Chain(from, to) => respond_chain(bundle, from, to, false, out),
-        Order::Followed(from, to) => respond_chain(bundle, from, to, true, out),
-        Order::Size(definition) => respond_size(bundle, definition, out),
-        Order::Value(definition) => respond_value(bundle, definition, out),
-        Order::Help => 0,
-        Order::Wrong => 0,
+    match respond(order, bundle, out) {
+        Ok(n) => n,
+        Err(refusal) => put_refusal(refusal, out),
     }
 }

@@ -38,7 +38,8 @@ module _ (s : List ℕ) where
       let q : record_end s at ≡ m = rw p (sym e) in
       record { bound = b; run = (rw p, omega (arith, q), q) }
 
-  -- a scan that hands out what each record says
+  -- A scan that hands out what each record says. Its equations, as those of `paths` in crate sizes, hold by computing what this scan hands
+  -- out: a lemma for both scans would not know what that is, and would take the equations as premises.
   said : (limit : ℕ) → runs.Scan s limit Part
   unfolding part_of
   said limit = record {

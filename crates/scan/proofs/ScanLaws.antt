@@ -1,5 +1,5 @@
 -- Going over the records of a run of bytes, one after another.
-use Rattle.std.specs.Prelude.{None, Some}
+use Rattle.std.specs.Prelude.{◌↔◌, IsTrue, None, Some}
 use Rattle.std.specs.Bool.{then_some}
 use Prim.Native.Nat.{ℕ, ◌+◌, ◌≤◌, ◌<◌}
 use native.Mathlib.Omega.{arith}
@@ -11,14 +11,10 @@ use lib.ListN.{length}
 use Rattle.meaning.specs.Kinds.{Literal, FieldRef, Sizeof, Alignof, Binary, Unary}
 use Rattle.meaning.specs.Kinds.{Primitive, TypeRef, Struct, Union, Enum, Array, SizeUnion}
 use Rattle.meaning.specs.Kinds.{Form, OfExpr, OfType, OfMember, OfRecord, Unknown}
-use Rattle.bundle.specs.declared.Form as code
-use Rattle.bundle.specs.declared.Form.TheVariants as form
-use Rattle.bundle.specs.declared.ExprForm.TheVariants as expr
-use Rattle.bundle.specs.declared.TypeForm.{TypeForm}
 use Rattle.bundle.specs.declared.TypeForm.TheVariants as type
-use Rattle.bundle.specs.View.{expr_form_meant, type_form_meant, form_meant}
+use Rattle.bundle.specs.View.{type_form_meant, IsType}
 use Rattle.scan.specs.Parts.{Part, other, lead, reference, arrayed, sized, is_lead, lead_names}
-use Rattle.scan.specs.Scan.{record_length, record_name, part_of, form_at, part_at, record_end, Run, Records, stops, from_stop, NextStop, piece_of}
+use Rattle.scan.specs.Scan.{record_length, record_name, part_of, form_at, part_at, record_end, Run, Records, stops, from_stop, StopsFirst, NextStop, piece_of}
 
 -- every record has a length
 pub some_length : (f : Form) → 0 < record_length f
@@ -60,37 +56,15 @@ lead_form s at (OfMember w) e = absurd (false≢true e)
 lead_form s at (OfRecord x y z) e = absurd (false≢true e)
 lead_form s at Unknown e = absurd (false≢true e)
 
--- whether a record leads, by its form
-pub lead_of : (s : List ℕ) (at : ℕ) {f : Form} → f ≡ form_at s at → is_lead (part_of s at f) ≡ is_lead (part_at s at)
-lead_of s at e = ap (λ f. is_lead (part_of s at f)) e
-
-pub a_type_ref : (s : List ℕ) (at : ℕ) {f : Form} → f ≡ OfType TypeRef → f ≡ form_at s at → is_lead (part_at s at) ≡ true
-unfolding part_of
-a_type_ref s at p e = rw (sym e ∙ p)
-
--- a form that is no type's, and a type's form that is no TypeRef's
-pub no_type : (s : List ℕ) (at : ℕ) (f : code.Form) → ((t : TypeForm) → f ≡ form.OfType t → ⊥) → is_lead (part_of s at (form_meant f)) ≡ false
-unfolding form_meant part_of expr_form_meant
-no_type s at (form.OfExpr (expr.Literal w)) o = refl
-no_type s at (form.OfExpr (expr.FieldRef n)) o = refl
-no_type s at (form.OfExpr expr.Sizeof) o = refl
-no_type s at (form.OfExpr expr.Alignof) o = refl
-no_type s at (form.OfExpr expr.Binary) o = refl
-no_type s at (form.OfExpr expr.Unary) o = refl
-no_type s at (form.OfType x) o = absurd (o x refl)
-no_type s at (form.OfMember w) o = refl
-no_type s at (form.OfRecord r) o = refl
-no_type s at form.Unknown o = refl
-
-pub no_type_ref : (s : List ℕ) (at : ℕ) (t : TypeForm) → (t ≡ type.TypeRef → ⊥) → is_lead (part_of s at (OfType (type_form_meant t))) ≡ false
-unfolding type_form_meant part_of
-no_type_ref s at type.Primitive o = refl
-no_type_ref s at type.TypeRef o = absurd (o refl)
-no_type_ref s at type.Struct o = refl
-no_type_ref s at type.Union o = refl
-no_type_ref s at type.Enum o = refl
-no_type_ref s at type.Array o = refl
-no_type_ref s at type.SizeUnion o = refl
+-- whether a record leads, by whether it is a TypeRef
+pub lead_is : (s : List ℕ) (at : ℕ) (b : Bool) → IsTrue b ↔ IsType s at type.TypeRef → b ≡ is_lead (part_at s at)
+unfolding part_of type_form_meant
+lead_is s at true h = rw (h.0 refl)
+lead_is s at false h = go (is_lead (part_at s at)) refl
+  where
+    go : (x : Bool) → is_lead (part_at s at) ≡ x → false ≡ x
+    go true e = h.1 (lead_form s at (form_at s at) e)
+    go false e = refl
 
 module _ (s : List ℕ) where
   -- a run says one thing
@@ -205,15 +179,8 @@ module _ (sizes jagged : Bool) where
 
   module _ {s : List ℕ} {at end next : ℕ} (g : Passing s at end next) where
     -- behind the last record
-    pub passing_end : end ≤ next → NextStop s at end sizes jagged next
-    passing_end h =
-        let e : g.parts ≡ [] = run_none s end next g.parts g.run h in
-        let a : Run s end next [] = rw e at g.run in
-        record {
-          forward = g.forward;
-          rest = λ ps r. rw (g.same ps r, e, from_none) a;
-          stop = λ l. absurd (omega arith);
-        }
+    pub passing_end : end ≤ next → NextStop s at end sizes jagged None
+    passing_end h ps r = g.same ps r ∙ ap (from_stop sizes jagged) (run_none s end next g.parts g.run h) ∙ from_none
 
     module _ (h : next < end) {f : Form} (e : f ≡ form_at s next) where
       here : First s end next g.parts
@@ -224,13 +191,14 @@ module _ (sizes jagged : Bool) where
       passing_there = rw e (omega (arith, here.there, g.bound))
 
       -- it stops the walk
-      pub passing_stop : None ≡ piece_of sizes jagged (part_of s next f) (record_length f) → NextStop s at end sizes jagged next
+      pub passing_stop : None ≡ piece_of sizes jagged (part_of s next f) (record_length f) → StopsFirst s at end sizes jagged next
       passing_stop q =
           let k : stops sizes jagged (part_at s next) ≡ true = go (stops sizes jagged (part_at s next)) (rw e at q) in
           record {
             forward = g.forward;
+            before = h;
             rest = λ ps r. rw (g.same ps r, here.is, from_here (part_at s next) here.rest k) (rw here.is at g.run);
-            stop = λ l. k;
+            stop = k;
           }
         where
           go : (t : Bool) → None ≡ then_some (not t) (record_length (form_at s next)) → t ≡ true

@@ -1,5 +1,5 @@
 -- The records of a run of bytes, one after another, and the first of them at which a walk stops.
-use Rattle.std.specs.Prelude.{Option}
+use Rattle.std.specs.Prelude.{Option, Some, None}
 use Rattle.std.specs.Bool.{then_some}
 use Rattle.std.specs.Prelude.{ℕ, ◌+◌, ◌*◌, ◌≤◌, ◌<◌, Bool, true, false, cond, ◌&&◌, not, List, [], ◌∷◌, ◌≡◌, eqb, length, get_or}
 use Rattle.meaning.specs.Kinds.{Literal, FieldRef, Sizeof, Alignof, Binary, Unary}
@@ -106,11 +106,17 @@ unfoldable pub from_stop : Bool → Bool → List Part → List Part
 from_stop sizes jagged [] = []
 from_stop sizes jagged (p ∷ ps) = cond (stops sizes jagged p) (p ∷ ps) (from_stop sizes jagged ps)
 
--- r is the position of the first record from `at` on at which the walk stops, or there is none before `end`
-pub record NextStop (s : List ℕ) (at end : ℕ) (sizes jagged : Bool) (r : ℕ) : Type 0 where
+-- r is the position of the first record from `at` to `end` at which the walk stops
+pub record StopsFirst (s : List ℕ) (at end : ℕ) (sizes jagged : Bool) (r : ℕ) : Type 0 where
   pub forward : at ≤ r
+  pub before : r < end
   pub rest : (ps : List Part) → Run s end at ps → Run s end r (from_stop sizes jagged ps)
-  pub stop : r < end → stops sizes jagged (part_at s r) ≡ true
+  pub stop : stops sizes jagged (part_at s r) ≡ true
+
+-- the first record at which it stops, if there is one
+abbrev pub NextStop : List ℕ → ℕ → ℕ → Bool → Bool → Option ℕ → Type 0
+NextStop s at end sizes jagged (Some r) = StopsFirst s at end sizes jagged r
+NextStop s at end sizes jagged None = (ps : List Part) → Run s end at ps → from_stop sizes jagged ps ≡ []
 
 -- a walk asks for sizes; for jagged arrays
 abbrev pub asks_sizes : Walk → Bool

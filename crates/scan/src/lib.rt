@@ -64,26 +64,25 @@ fn piece_of(s: &[u8], at: usize, form: Form, walk: Walk) -> Option<usize>
             TypeForm::Array => (!is_jagged(s, at, walk)).then_some(11),
             TypeForm::SizeUnion => (!asks_sizes(walk)).then_some(12),
         },
-        Form::OfMember(w) => Some(3 + usize::from(w)),
+        Form::OfMember(m) => Some(3 + usize::from(bundle::value_width(m))),
         Form::OfRecord(_) => Some(1),
         Form::Unknown => Some(1),
     }
 }
 
-// The first record from `at` to `end` at which the walk stops, or `end`: a place to go on from, not an Option, as callers loop while it
-// is before `end`.
-pub fn next_stop(s: &[u8], at: usize, end: usize, walk: Walk) -> usize
+// The first record from `at` to `end` at which the walk stops, if there is one.
+pub fn next_stop(s: &[u8], at: usize, end: usize, walk: Walk) -> Option<usize>
     requires { Records s.now at end }
     ensures { NextStop s.now at end (asks_sizes walk) (asks_jagged walk) result }
 {
     let mut next = at;
     while next < end {
         let Some(n) = piece_of(s, next, bundle::form_of(s[next]), walk) else {
-            return next;
+            return Some(next);
         };
         next += n;
     }
-    next
+    None
 }
 
 // Whether the record at `at` leads to a definition.
@@ -91,8 +90,5 @@ pub fn leads(s: &[u8], at: usize) -> bool
     requires { at < length s.now }
     ensures { result ≡ is_lead (part_at s.now at) }
 {
-    let Form::OfType(t) = bundle::form_of(s[at]) else {
-        return false;
-    };
-    matches!(t, TypeForm::TypeRef)
+    bundle::type_is(s, at, TypeForm::TypeRef)
 }

@@ -1,5 +1,5 @@
 -- The chain from a number, read off from how far each number is and from the hops.
---     hops_start, -taken, -passed     before any edge, and one edge more, from the last to the first
+--     hops_taken, -passed            one edge more, from the last to the first
 --     hop_on                          a hop leads to a number that is one edge nearer
 --     first_along                     the first walk goes along the hops
 --     chain_along, chain_no           so does the chain; where no walk leads there is none
@@ -24,9 +24,6 @@ unfolding chain_of
 chain_no g x b empty = rw (first_walk_no g x b empty)
 
 module _ {g : Graph} {m : ℕ} {far : ℕ → ℕ} where
-  pub hops_start : (hop : ℕ → ℕ) → Hops g m far hop g.count
-  hops_start hop x d a p q _ = absurd (omega arith)
-
   module _ {hop : ℕ → ℕ} {e k : ℕ} (one : k ≡ e + 1) (hops : Hops g m far hop k) where
     -- an edge from e on is e or one of those after it
     after : {d : ℕ} → e ≤ d → (d ≡ e → ⊥) → k ≤ d

@@ -4,7 +4,7 @@
 --     sought                         what the hops add
 --     measured_chain, -short         what is marked has a chain of as many names as it is far, and is no farther than there are edges
 --     settled_for, -kept             a search that is settled for another number, or is as it was
---     filling_start, -next, -end     the names along the hops, written one after another
+--     filling_next                   the names along the hops, written one after another
 --     from_none, from_unmarked, from_marked        the chain from a name that has no number, is not marked, or is
 --     from_counted                                 and where it is not read off
 --     sought_kept, lent_kept                       what was left stays where only the list changes
@@ -57,9 +57,6 @@ pub record Filling (count : ℕ) (edges work₀ : List ℕ) (x n : ℕ) (work : 
   pub left : (j k : ℕ) → n ≡ suc j → n ≡ i + suc k
       → take i (list_in count work) ++ map (name_in count edges) (along (hop_in work₀) k y) ≡ map (name_in count edges) (along (hop_in work₀) j x)
   pub done : (j : ℕ) → n ≡ suc j → n ≡ i → take i (list_in count work) ≡ map (name_in count edges) (along (hop_in work₀) j x)
-
-below_refl : (count : ℕ) (work : List ℕ) → Below count work work
-below_refl count work = record { same = λ i _. refl; size = refl }
 
 -- a store into place 0 leaves it as far
 pub far_kept : (work : List ℕ) (v x : ℕ) → far_in (set work 0 v) x ≡ far_in work x
@@ -169,16 +166,6 @@ module _ {count : ℕ} {edges : List ℕ} (s : Indexed count edges) where
       (q', record { room = omega (arith, length-set work 0 2); sought = λ _. (measured_kept m (kept_set work 0 2 (inl refl)), λ _. q') })
 
   module _ {work₀ : List ℕ} {x n : ℕ} (room : 7 * count + 7 ≤ length work₀) (short : n ≤ count + 1) where
-    pub filling_start : x < names_in edges → far_in work₀ x ≡ n → Filling count edges work₀ x n work₀ x 0
-    filling_start l e =
-        record {
-          within = omega arith;
-          inside = λ _. (l, omega arith);
-          below = below_refl count work₀;
-          left = λ j k p q. let is : k ≡ j = omega arith in ap (λ (z : ℕ). map (name_in count edges) (along (hop_in work₀) z x)) is;
-          done = λ j p q. absurd (omega arith);
-        }
-
     module _ {to : ℕ} (sought : Sought count edges to work₀) {work : List ℕ} {y i : ℕ} (l : i < n) (s₀ : Filling count edges work₀ x n work y i) where
       name : ℕ
       name = name_in count edges y
@@ -217,12 +204,6 @@ module _ {count : ℕ} {edges : List ℕ} (s : Indexed count edges) where
                 (append_snoc (take i (list_in count work)) name (map (name_in count edges) (along (hop_in work₀) k (hop_in work₀ y))) ∙ s₀.left j (suc k) p (omega arith));
             done = λ j p q. one_more ∙ s₀.left j 0 p (omega arith);
           }
-
-    pub filling_end : {work : List ℕ} {y i : ℕ} → n ≤ i → Filling count edges work₀ x n work y i → (k : ℕ) → n ≡ suc k
-        → take n (list_in count work) ≡ map (name_in count edges) (along (hop_in work₀) k x)
-    filling_end {work} {y} {i} l s₀ k e =
-        let end : n ≡ i = omega (arith, s₀.within) in
-        ap (λ (j : ℕ). take j (list_in count work)) end ∙ s₀.done k e end
 
   -- a name that has no number
   pub from_none : {from to : ℕ} → PlaceOf edges (5 * count + 1) 256 (names_in edges) from None → (from ≡ to → ⊥) → chain_of (named count edges) from to ≡ none

@@ -1,12 +1,11 @@
 -- The search and its hops in the slice that is lent, turn by turn.
---     clear_more                     one number more is not marked
 --     kept_set, -hops, -list, -less, -far, -entries, -next      what is as it was after a store, after the hops, where only the list changed
 --     paused_kept                    so the search is
 --     cleared, begun                 before the first entry, and with it
---     follow_start, -turn            the edges that lead to an entry, one after another
+--     follow_turn                    the edges that lead to an entry, one after another
 --     follow_early, -all             one from the number that is looked for, or none
---     sizes, next_small, follow_room      what the places that are read and written hang on
---     hop_start, hopped, unhopped    before any edge; one edge gives a hop, or none
+--     sizes, follow_room      what the places that are read and written hang on
+--     hopped, unhopped               one edge gives a hop, or none
 use Prim.Native.Nat.{ℕ, ◌+◌, ◌*◌, ◌≤◌, ◌<◌}
 use mathlib.Core.Path.{◌≡◌, refl, sym, ap, ◌∙◌, subst}
 use mathlib.Core.Bool.{true, false}
@@ -19,7 +18,7 @@ use Rattle.chain.specs.Index.{names_in, from_in, to_in, link_in, first_in, numbe
 use Rattle.search.specs.Seeking.{Pushed}
 use Rattle.search.specs.Work.{far_in, queue_in, hop_in, entries_in, next_in, Exploring, Paused, Settled, marked, AfterEntry, Hopped, Added, known, new, Below}
 use Rattle.search.proofs.Breadth.{seeking_start, seeking_room, seeking_push, seeking_known, seeking_skip, seeking_next, seeking_back, seeking_few, seeking_same}
-use Rattle.search.proofs.Distances.{hops_start, hops_passed, hops_taken}
+use Rattle.search.proofs.Distances.{hops_passed, hops_taken}
 
 -- the two stores that make x entry n
 pushed : (work : List ℕ) (n x v : ℕ) → 3 * x + 1 < length work → 3 * n + 2 < length work
@@ -103,9 +102,6 @@ module _ {count : ℕ} {edges : List ℕ} (s : Indexed count edges) where
         next = next;
       }
 
-  pub next_small : (e : ℕ) → e < count → (e < link_in edges e) × (link_in edges e ≤ count)
-  next_small e l = let y = s.linked.nexts e (omega arith) l in (omega (arith, y.past), y.small)
-
   module _ {b n h : ℕ} {work : List ℕ} where
     pub sizes : {e : ℕ} → Exploring count edges b work n h e → h < n → Sizes count edges work n h
     sizes q l =
@@ -119,10 +115,6 @@ module _ {count : ℕ} {edges : List ℕ} (s : Indexed count edges) where
           far = (q.state.reached h l).1;
           first = (s.linked.firsts (queue_in work h) (q.state.inside h l)).small;
         }
-
-    pub follow_start : Exploring count edges b work n h 0 → h < n → next_in count work ≡ h
-        → Following count edges b work n h (queue_in work h) (far_in work (queue_in work h) + 1) (first_in count edges (queue_in work h))
-    follow_start q l = skip q l refl refl (s.linked.firsts (queue_in work h) (q.state.inside h l))
 
     module _ {x v e : ℕ} (q : Following count edges b work n h x v e) where
       pub follow_room : (y : ℕ) → y < names_in edges → far_in work y ≡ 0 → n < names_in edges
@@ -285,9 +277,6 @@ pub hopped_far : {count e : ℕ} {edges work work' : List ℕ} → Hopped count 
 hopped_far h x = h.same (3 * x + 1) (λ y e. omega arith)
 
 module _ {count : ℕ} {edges work₀ : List ℕ} where
-  pub hop_start : Hopped count edges work₀ count work₀
-  hop_start = record { hops = hops_start (hop_in work₀); same = λ p _. refl; size = refl }
-
   module _ {e k : ℕ} {work : List ℕ} (one : k ≡ e + 1) (h : Hopped count edges work₀ k work) where
     pub hopped : e < count → far_in work (from_in edges e) ≡ far_in work (to_in edges e) + 1 → 3 * from_in edges e + 3 < length work
         → Hopped count edges work₀ e (set work (3 * from_in edges e + 3) (to_in edges e))

@@ -10,26 +10,27 @@
 //     6 count + 2           the entry that is next
 //     6 count + 3 and on    the list for a chain
 // The state in place 0 and the 0 where a number is not marked are numbers, no enum and no `Option`: they stand in the caller's places of 16
-// bits (no heap, fixed memory).
+// bits (no heap, fixed memory). It is one slice: with an array of structs for the numbers, the list and a struct of the state and the
+// queue's ends would be lent beside it, by each of the 21 functions that hand `work` on, here and in six crates up to draft.
+// The facts `Indexed` and `Lent`, the bounds of `work` and of numbers, and `edges` with `work` stand one by one: a struct with `Indexed` as
+// its invariant was tried and took longer (chain), and one for `Lent`, which is of `edges`, `count` and `work`, would have that one in it.
 #![tactic(auto)]
 
 ghost use Rattle.std.specs.Prelude.{◌≡◌, ℕ, ◌+◌, ◌*◌, ◌≤◌, ◌<◌, length, get_or};
 ghost use Rattle.chain.specs.Index.{Indexed};
 ghost use Rattle.search.specs.Work.{far_in, entries_in, next_in, Paused, AfterEntry, Settled, Added, Measured, Lent};
 
-// How many places are lent: for a search over few edges, and over as many as a bundle can have.
+// How many places are lent (two constants, as chain says): for a search over few edges, and over as many as a bundle can have.
 pub const FEW_PLACES: usize = 7 * chain::FEW_EDGES + 7;
 
 pub const PLACES: usize = 7 * bundle::EDGES + 7;
 
-// Says of each of m numbers that it is not marked.
+// Says of each of m numbers that it is not marked. What else stands at these numbers is free.
 fn clear(work: &mut [u16], m: usize)
     requires { (m ≤ 2048) × (3 * m < length work.old) }
     ensures { (x : ℕ) → x < m → far_in work.new x ≡ 0 }
 {
-    for x in 0..m {
-        work[3 * x + 1] = 0;
-    }
+    work[1..3 * m + 1].fill(0);
 }
 
 // Adds the number `x`, so far off, to the `n` entries of the queue, unless it is marked. Returns how many there are.

@@ -23,6 +23,7 @@ use Rattle.table.proofs.Buckets.{PlaceOr, place_or}
 use Rattle.chain.specs.Edges.{turned}
 use Rattle.chain.specs.Index.{names_in, name_in, named, Indexed}
 use Rattle.search_from.specs.Queue.{leading}
+use Rattle.search_from.specs.declared.Place.{Place}
 use Rattle.search_from.specs.Work.{long_in, before_in, Explored}
 use Rattle.search_from.specs.Listing.{answer_meant, Lists}
 use Rattle.refusal.specs.declared.Refusal.TheVariants.{NoRoom}
@@ -78,7 +79,7 @@ module _ {count : ℕ} {edges : List ℕ} (s : Indexed count edges) (small : (i 
   pub two_numbers : x ≡ y → ⊥
   two_numbers e = ne (sym (p.here) ∙ ap (name_in count edges) e ∙ q.here (omega (arith, p.within)))
 
-  module _ {work : List ℕ} {k : ℕ} (o : Explored count edges x y work k) where
+  module _ {work : List Place} {k : ℕ} (o : Explored count edges x y work k) where
     counted : followed_count (turned 1 (named count edges)) a b ≡ k
     counted = count_of s small p q ne ∙ o.over.followed
 

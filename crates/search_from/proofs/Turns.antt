@@ -2,50 +2,21 @@
 --     start                          the first entry
 --     follow_start, -turn, -end      the edges from an entry, one after another
 --     follow_found                   one that leads to the number that is looked for
---     bounds, entries_few, next_small, follow_room      what the places that are read and written hang on
+--     bounds, entries_few, follow_room      what the places that are read and written hang on
 --     explored                       no edge is left
 use Prim.Native.Nat.{ℕ, ◌+◌, ◌*◌, ◌≤◌, ◌<◌}
 use mathlib.Core.Path.{◌≡◌, refl, sym, ap, ◌∙◌, subst}
 use mathlib.Core.List.{List}
 use native.Mathlib.Omega.{arith}
-use lib.ListN.{length, length-set, get_or, set}
-use lib.Seq.{get_or-set_same, get_or-set_other}
+use lib.ListN.{length}
 use Rattle.chain.specs.Index.{names_in, from_in, to_in, link_in, first_in, numbered, NextTo, Indexed}
 use Rattle.search_from.specs.Queue.{Marked, Onward, on, over}
+use Rattle.search_from.specs.declared.Place.{Place}
 use Rattle.search_from.specs.Work.{long_in, entry_in, before_in, unturned, Exploring, AfterEntry, Explored, Added, known, new}
 use Rattle.search_from.proofs.Steps.{searching_start, searching_few, searching_room, searching_push, searching_known, searching_skip, searching_next, searching_over, searching_gone}
 
--- the three stores that make y entry n
-marks : (work : List ℕ) (n y x v : ℕ) → 3 * y + 2 < length work → 3 * n + 1 < length work
-    → let work' = set (set (set work (3 * y) v) (3 * y + 2) x) (3 * n + 1) y in
-    Marked (long_in work) (entry_in work) (before_in work) n y x v (long_in work') (entry_in work') (before_in work')
-marks work n y x v a b =
-    record {
-      here = third (3 * y) (λ r. omega arith) ∙ second (3 * y) (λ r. omega arith) ∙ get_or-set_same work (3 * y) v 0 (omega arith);
-      others = λ z q. third (3 * z) (λ r. omega arith) ∙ second (3 * z) (λ r. omega arith) ∙ first (3 * z) (λ r. q (omega arith));
-      last = get_or-set_same two (3 * n + 1) y 0 (omega (arith, length-set one (3 * y + 2) x, length-set work (3 * y) v));
-      old = λ i l. third (3 * i + 1) (λ r. omega arith) ∙ second (3 * i + 1) (λ r. omega arith) ∙ first (3 * i + 1) (λ r. omega arith);
-      from = third (3 * y + 2) (λ r. omega arith) ∙ get_or-set_same one (3 * y + 2) x 0 (omega (arith, length-set work (3 * y) v));
-      kept = λ z q. third (3 * z + 2) (λ r. omega arith) ∙ second (3 * z + 2) (λ r. q (omega arith)) ∙ first (3 * z + 2) (λ r. omega arith);
-    }
-  where
-    one : List ℕ
-    one = set work (3 * y) v
-
-    two : List ℕ
-    two = set one (3 * y + 2) x
-
-    first : (p : ℕ) → (p ≡ 3 * y → ⊥) → get_or one p 0 ≡ get_or work p 0
-    first p q = get_or-set_other work (3 * y) p v 0 q
-
-    second : (p : ℕ) → (p ≡ 3 * y + 2 → ⊥) → get_or two p 0 ≡ get_or one p 0
-    second p q = get_or-set_other one (3 * y + 2) p x 0 q
-
-    third : (p : ℕ) → (p ≡ 3 * n + 1 → ⊥) → get_or (set two (3 * n + 1) y) p 0 ≡ get_or two p 0
-    third p q = get_or-set_other two (3 * n + 1) p y 0 q
-
 -- the edges from entry h, which is x, are followed up to edge e; what is marked from x gets a chain of v names
-pub record Following (count : ℕ) (edges : List ℕ) (a : ℕ) (work : List ℕ) (n h x v e : ℕ) : Type 0 where
+pub record Following (count : ℕ) (edges : List ℕ) (a : ℕ) (work : List Place) (n h x v e : ℕ) : Type 0 where
   pub exploring : Exploring count edges a work n h e
   pub entry : h < n
   pub number : entry_in work h ≡ x
@@ -53,21 +24,21 @@ pub record Following (count : ℕ) (edges : List ℕ) (a : ℕ) (work : List ℕ
   pub here : e < count → to_in edges e ≡ x
 
 -- what the places that are read and written hang on, while the edges from entry h are followed
-pub record Bounds (count : ℕ) (edges work : List ℕ) (n h : ℕ) : Type 0 where
+pub record Bounds (count : ℕ) (edges : List ℕ) (work : List Place) (n h : ℕ) : Type 0 where
   pub few : count ≤ 1024
   pub names : names_in edges ≤ 2 * count
   pub size : 9 * count + 257 ≤ length edges
   pub entries : n ≤ names_in edges
-  pub room : 6 * count + 3 ≤ length work
+  pub room : 2 * count + 1 ≤ length work
   pub number : entry_in work h < names_in edges
   pub long : long_in work (entry_in work h) ≤ h + 1
   pub first : first_in count edges (entry_in work h) ≤ count
 
 module _ {count : ℕ} {edges : List ℕ} (s : Indexed count edges) where
-  pub entries_few : {a n h e : ℕ} {work : List ℕ} → Exploring count edges a work n h e → n ≤ names_in edges
+  pub entries_few : {a n h e : ℕ} {work : List Place} → Exploring count edges a work n h e → n ≤ names_in edges
   entries_few q = searching_few q.state
 
-  pub bounds : {a n h e : ℕ} {work : List ℕ} → Exploring count edges a work n h e → h < n → Bounds count edges work n h
+  pub bounds : {a n h e : ℕ} {work : List Place} → Exploring count edges a work n h e → h < n → Bounds count edges work n h
   bounds {h = h} {work = work} q l =
       record {
         few = s.few;
@@ -80,11 +51,8 @@ module _ {count : ℕ} {edges : List ℕ} (s : Indexed count edges) where
         first = (s.linked.firsts (entry_in work h) (q.state.inside h l)).small;
       }
 
-  pub next_small : (e : ℕ) → e < count → (e < link_in edges e) × (link_in edges e ≤ count)
-  next_small e l = let t = s.linked.nexts e (omega arith) l in (omega (arith, t.past), t.small)
-
   -- on to the next edge from x
-  skip : {a n h x v e f : ℕ} {work : List ℕ} → Exploring count edges a work n h e → h < n → entry_in work h ≡ x → v ≡ long_in work x + 1
+  skip : {a n h x v e f : ℕ} {work : List Place} → Exploring count edges a work n h e → h < n → entry_in work h ≡ x → v ≡ long_in work x + 1
       → NextTo (numbered count edges) x e f → Following count edges a work n h x v f
   skip {f = f} q l number size next =
       record {
@@ -95,15 +63,11 @@ module _ {count : ℕ} {edges : List ℕ} (s : Indexed count edges) where
         here = next.here;
       }
 
-  pub follow_start : {a n h : ℕ} {work : List ℕ} → Exploring count edges a work n h 0 → h < n
+  pub follow_start : {a n h : ℕ} {work : List Place} → Exploring count edges a work n h 0 → h < n
       → Following count edges a work n h (entry_in work h) (long_in work (entry_in work h) + 1) (first_in count edges (entry_in work h))
   follow_start {h = h} {work = work} q l = skip q l refl refl (s.linked.firsts (entry_in work h) (q.state.inside h l))
 
-  module _ {a n h x v e : ℕ} {work : List ℕ} (f : Following count edges a work n h x v e) (l : e < count) where
-    -- the slice with the number that the edge leads to marked
-    after : List ℕ
-    after = set (set (set work (3 * from_in edges e) v) (3 * from_in edges e + 2) x) (3 * n + 1) (from_in edges e)
-
+  module _ {a n h x v e : ℕ} {work : List Place} (f : Following count edges a work n h x v e) (l : e < count) where
     next : NextTo (numbered count edges) x (e + 1) (link_in edges e)
     next = subst (λ (z : ℕ). NextTo (numbered count edges) z (e + 1) (link_in edges e)) (f.here l) (s.linked.nexts e (omega arith) l)
 
@@ -113,81 +77,63 @@ module _ {count : ℕ} {edges : List ℕ} (s : Indexed count edges) where
     pub follow_room : long_in work (from_in edges e) ≡ 0 → n < names_in edges
     follow_room fresh = searching_room f.exploring.state (from_in edges e) (s.froms e l) fresh
 
-    -- the edge leads to a number that is not marked
-    module _ (fresh : long_in work (from_in edges e) ≡ 0) where
-      marked : Marked (long_in work) (entry_in work) (before_in work) n (from_in edges e) x v (long_in after) (entry_in after) (before_in after)
-      unfolding after
-      marked =
-          marks work n (from_in edges e) x v (omega (arith, s.froms e l, s.small, f.exploring.room))
-          (omega (arith, follow_room fresh, s.small, f.exploring.room))
-
-      room : 6 * count + 3 ≤ length after
-      unfolding after
-      room = simp length-set f.exploring.room
+    -- the edge leads to a number that was not marked and is marked now
+    module _ (work' : List Place) (fresh : long_in work (from_in edges e) ≡ 0)
+        (marked : Marked (long_in work) (entry_in work) (before_in work) n (from_in edges e) x v (long_in work') (entry_in work') (before_in work'))
+        (same : length work' ≡ length work) where
+      room : 2 * count + 1 ≤ length work'
+      room = omega (arith, same, f.exploring.room)
 
       -- x is marked, and so it is another number
-      size : v ≡ long_in after x + 1
+      size : v ≡ long_in work' x + 1
       size =
           f.size
           ∙ ap (λ (k : ℕ). k + 1) (sym (marked.others x (λ p. omega (arith, ap (long_in work) p, ap (long_in work) f.number, f.exploring.state.marked h f.entry))))
 
-      turned_over : AfterEntry count edges a (from_in edges e) after (n + 1) h
+      turned_over : AfterEntry count edges a (from_in edges e) work' (n + 1) h
       turned_over =
           let t = searching_over f.exploring.state marked f.entry f.number f.size l from refl fresh in
           record { after = over t.0 t.1; room = room }
 
-      one_more : Following count edges a after (n + 1) h x v (link_in edges e)
+      one_more : Following count edges a work' (n + 1) h x v (link_in edges e)
       one_more =
           skip (record { state = searching_push f.exploring.state marked f.entry f.number f.size l from refl fresh; room = room })
           (omega (arith, f.entry)) (marked.old h f.entry ∙ f.number) size next
 
-    module _ {to r : ℕ} {work' : List ℕ} (unmarked : long_in work to ≡ 0) where
+    module _ {to r : ℕ} {work' : List Place} (unmarked : long_in work to ≡ 0) where
       pub follow_found : from_in edges e ≡ to → Added work n (from_in edges e) x v work' r → AfterEntry count edges a to work' r h
-      unfolding after
       follow_found is (known p q k) = absurd (omega (arith, ap (long_in work) is))
-      follow_found is (new p q k) = rw (q, k) (subst (λ (z : ℕ). AfterEntry count edges a z after (n + 1) h) is (turned_over p))
+      follow_found is (new p m q k) = rw k (subst (λ (z : ℕ). AfterEntry count edges a z work' (n + 1) h) is (turned_over work' p m q))
 
       pub follow_turn : (from_in edges e ≡ to → ⊥) → Added work n (from_in edges e) x v work' r
           → Following count edges a work' r h x v (link_in edges e) × (long_in work' to ≡ 0)
-      unfolding after
       follow_turn ne (known p q k) =
           rw (q, k)
           (skip (record { state = searching_known f.exploring.state f.entry p; room = f.exploring.room }) f.entry f.number f.size next, unmarked)
-      follow_turn ne (new p q k) = rw (q, k) (one_more p, (marked p).others to (λ z. ne (sym z)) ∙ unmarked)
+      follow_turn ne (new p m q k) = (rw k (one_more work' p m q), m.others to (λ z. ne (sym z)) ∙ unmarked)
 
-  pub follow_end : {a to n h x v e : ℕ} {work : List ℕ} → Following count edges a work n h x v e → count ≤ e → long_in work to ≡ 0 → AfterEntry count edges a to work n h
+  pub follow_end : {a to n h x v e : ℕ} {work : List Place} → Following count edges a work n h x v e → count ≤ e → long_in work to ≡ 0 → AfterEntry count edges a to work n h
   follow_end f all fresh = record { after = on fresh (searching_next f.exploring.state f.entry all); room = f.exploring.room }
 
-  pub start : (work : List ℕ) (a : ℕ) → a < names_in edges → 6 * count + 3 ≤ length work → ((i : ℕ) → get_or work i 0 ≡ 0)
-      → Exploring count edges a (set (set work (3 * a) 1) 1 a) 1 0 0
-  start work a l room zeros =
-      record {
-        state = searching_start (λ d k. (s.tos d k, s.froms d k)) l (second (3 * a) (λ r. omega arith) ∙ get_or-set_same work (3 * a) 1 0 (omega (arith, s.small)))
-            (λ x ne. second (3 * x) (λ r. omega arith) ∙ get_or-set_other work (3 * a) (3 * x) 1 0 (λ r. ne (omega arith)) ∙ zeros (3 * x))
-            (get_or-set_same (set work (3 * a) 1) 1 a 0 (omega (arith, length-set work (3 * a) 1)));
-        room = simp length-set room;
-      }
-    where
-      second : (p : ℕ) → (p ≡ 1 → ⊥) → get_or (set (set work (3 * a) 1) 1 a) p 0 ≡ get_or (set work (3 * a) 1) p 0
-      second p q = get_or-set_other (set work (3 * a) 1) 1 p a 0 q
-
-  pub start_unmarked : (work : List ℕ) (a to : ℕ) → ((i : ℕ) → get_or work i 0 ≡ 0) → (a ≡ to → ⊥) → long_in (set (set work (3 * a) 1) 1 a) to ≡ 0
-  start_unmarked work a to zeros ne =
-      get_or-set_other (set work (3 * a) 1) 1 (3 * to) a 0 (λ r. omega arith) ∙ get_or-set_other work (3 * a) (3 * to) 1 0 (λ r. ne (omega arith)) ∙ zeros (3 * to)
+  -- the first entry is marked
+  pub start : {work work' : List Place} {a r : ℕ} → a < names_in edges → 2 * count + 1 ≤ length work → ((x : ℕ) → long_in work x ≡ 0)
+      → Added work 0 a a 1 work' r → Exploring count edges a work' r 0 0 × ((to : ℕ) → (a ≡ to → ⊥) → long_in work' to ≡ 0)
+  start {a = a} l small zeros (known p q k) = absurd (omega (arith, zeros a))
+  start {a = a} l small zeros (new p m q k) = (
+    rw k
+        (record {
+          state = searching_start (λ d k. (s.tos d k, s.froms d k)) l m.here (λ x ne. m.others x ne ∙ zeros x) m.last;
+          room = omega (arith, q);
+        }),
+    λ to ne. m.others to (λ r. ne (sym r)) ∙ zeros to,
+  )
 
   -- the edges of every entry are followed
-  pub explored : {a to n h : ℕ} {work : List ℕ} → Exploring count edges a work n h 0 → n ≤ h → long_in work to ≡ 0 → Explored count edges a to work n
+  pub explored : {a to n h : ℕ} {work : List Place} → Exploring count edges a work n h 0 → n ≤ h → long_in work to ≡ 0 → Explored count edges a to work n
   explored {to = to} q l fresh = record { over = searching_gone q.state l to fresh }
 
 -- what following the edges of an entry came to
-pub followed_on : {count : ℕ} {edges : List ℕ} {a to n h : ℕ} {work : List ℕ} → AfterEntry count edges a to work n h → long_in work to ≡ 0 → Exploring count edges a work n (h + 1) 0
-followed_on {count} {edges} {a} {to} {n} {h} {work} f fresh = go f.after
-  where
-    go : Onward (unturned count edges) a to (names_in edges) (long_in work) (entry_in work) (before_in work) n h → Exploring count edges a work n (h + 1) 0
-    go (on p s) = record { state = s; room = f.room }
-    go (over p o) = absurd (omega arith)
-
-pub followed_over : {count : ℕ} {edges : List ℕ} {a to n h : ℕ} {work : List ℕ} → AfterEntry count edges a to work n h → (long_in work to ≡ 0 → ⊥) → Explored count edges a to work (h + 1)
+pub followed_over : {count : ℕ} {edges : List ℕ} {a to n h : ℕ} {work : List Place} → AfterEntry count edges a to work n h → (long_in work to ≡ 0 → ⊥) → Explored count edges a to work (h + 1)
 followed_over {count} {edges} {a} {to} {n} {h} {work} f marked = go f.after
   where
     go : Onward (unturned count edges) a to (names_in edges) (long_in work) (entry_in work) (before_in work) n h → Explored count edges a to work (h + 1)

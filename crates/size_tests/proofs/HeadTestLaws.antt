@@ -1,9 +1,10 @@
 -- The named-type test of a definition's type by its own record, with the tag or size behind it.
-use Rattle.std.specs.Prelude.{Err, Ok}
+use Rattle.std.specs.Prelude.{Option, Some, None, Result, Err, Ok, is_some}
+use Rattle.std.specs.Result.{result_ok}
 use Rattle.std.specs.Bool.{then_some}
 use Prim.Native.Nat.{ℕ, ◌+◌, ◌≤◌, ◌<◌}
 use native.Mathlib.Omega.{arith}
-use mathlib.Core.Bool.{Bool, true, false, not, ◌&&◌, ◌||◌}
+use mathlib.Core.Bool.{true≢false, Bool, true, false, not, ◌&&◌, ◌||◌}
 use mathlib.Core.Path.{◌≡◌, refl, sym, ap, ◌∙◌}
 use mathlib.Core.List.{List, [], ◌∷◌, append-nil}
 use lib.ListN.{length, get_or}
@@ -28,6 +29,16 @@ use Rattle.sizes.specs.Tests.{known, named_holds}
 use Rattle.sizes.proofs.ReferenceLaws.{expr_no}
 use Rattle.size_tests.specs.Scans.{inline_holds, some_counts, Rest, HeadTested}
 use Rattle.size_tests.proofs.CountLaws.{members_size, inline_counts, counts_none}
+
+-- what was read, where `ok` gave it
+pub was_ok : {A : Type 0} {r m : Result A Refusal} {o : Option A} {a : A} → r ≡ m → o ≡ result_ok r → o ≡ Some a → Ok a ≡ m
+was_ok {r = Ok b} {m} {o} {a} e f g = let b_is : Some b ≡ Some a = sym f ∙ g in sym (ap Ok (cc)) ∙ e
+was_ok {r = Err k} e f g = absurd (true≢false (sym (ap is_some (sym f ∙ g))))
+
+-- the refusal, where `ok` gave none
+pub was_err : {A : Type 0} {r m : Result A Refusal} {o : Option A} → r ≡ m → o ≡ result_ok r → o ≡ None → (k : Refusal) × (Err k ≡ m)
+was_err {r = Ok b} e f g = absurd (true≢false (ap is_some (sym f ∙ g)))
+was_err {r = Err k} e f g = (k, e)
 
 module _ (s : List ℕ) (at : ℕ) {end : ℕ} (e : Ok end ≡ step_of (read_ty 24 s at)) where
   pub head_reads : Reads (read_ty 24 s at)

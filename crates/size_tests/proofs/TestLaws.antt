@@ -24,9 +24,9 @@ use Rattle.bundle.specs.Definitions.{type_at, bundle_of, Table}
 use Rattle.bundle.proofs.Trees.{refused_no}
 use Rattle.bundle.proofs.LookupLaws.{placed_type, found_none}
 use Rattle.scan.specs.Parts.{Part, lead, type_parts, lead_names, is_lead}
-use Rattle.scan.specs.Scan.{record_name, part_at, Run, Records, lead_to, stops, from_stop, NextStop, asks_sizes, asks_jagged}
+use Rattle.scan.specs.Scan.{record_name, part_at, Run, lead_to, from_stop, StopsFirst, NextStop, asks_sizes, asks_jagged}
 use Rattle.scan.specs.declared.Walk.{Walk}
-use Rattle.scan.proofs.ScanLaws.{unique, run_none, First, first, Lead, first_lead, leading, from_names}
+use Rattle.scan.proofs.ScanLaws.{unique, First, first, Lead, first_lead, leading, from_names}
 use Rattle.scan.proofs.Flat.{type_flat}
 use Rattle.scan.proofs.PartLaws.{names_append}
 use Rattle.scan.proofs.Walks.{resolve_append, lead_none, lead_one, definition_flat, definition_lead}
@@ -41,59 +41,48 @@ ready_same {s} {j} {left} {ds} {es} {kept} e g = subst (λ xs. Ready s j left xs
 ready_behind : {s : List ℕ} {j : Bool} {left i : ℕ} {ds : List ℕ} {kept after : List (Option Bool)} → Ready s j left (i ∷ ds) kept → Kept s j after → Ready s j left ds after
 ready_behind {i = i} g k = record { ends = g.ends; within = λ x m. g.within x (Memᴰ.append_right (i ∷ []) m); keeps = k }
 
--- the records of a run from `at` to `end` are tested, and none of those before `next` has made the test hold
-pub record Testing (s : List ℕ) (j : Bool) (left at end : ℕ) (kept : List (Option Bool)) (next : ℕ) : Type 0 where
-  pub bound : end ≤ length s
-  pub parts : List Part
-  pub run : Run s end next parts
-  pub some : (ps : List Part) → Run s end at ps → some_counts j s ps ≡ some_counts j s parts
-  pub ready : Ready s j left (lead_to s parts) kept
-  pub stop : next < end → stops (not j) j (part_at s next) ≡ true
+-- the records of a run from `at` to `end` are tested, and none of those before `from` has made the test hold
+pub record Testing (s : List ℕ) (j : Bool) (left at end : ℕ) (kept : List (Option Bool)) (from : ℕ) : Type 0 where
+  pub others : ToTest s j left from end kept
+  pub some : (ps : List Part) → Run s end at ps → some_counts j s ps ≡ some_counts j s others.records.parts
 
--- the records from the first on at which the test stops
-onward : (s : List ℕ) (j : Bool) (ps : List Part) → lead_to s ps ≡ lead_to s (from_stop (not j) j ps)
-onward s j ps = sym (ap (resolve (bundle_of s)) (from_names (not j) j ps))
+pub testing_start : {s : List ℕ} {j : Bool} {left at end : ℕ} {kept : List (Option Bool)} → ToTest s j left at end kept → Testing s j left at end kept at
+testing_start {s} {j} {left} {at} {end} g = record { others = g; some = λ ps a. ap (some_counts j s) (unique s end at ps g.records.parts a g.records.run) }
 
--- where a walk for a test stops
-stopped : {s : List ℕ} {j : Bool} {at end next : ℕ} (w : Walk) → (asks_sizes w ≡ not j) × (asks_jagged w ≡ j) → NextStop s at end (asks_sizes w) (asks_jagged w) next → NextStop s at end (not j) j next
-stopped {s} {j} {at} {end} {next} w a l = subst (λ y. NextStop s at end (not j) y next) a.1 (subst (λ x. NextStop s at end x (asks_jagged w) next) a.0 l)
+module _ {s : List ℕ} {j : Bool} {left at end : ℕ} {kept : List (Option Bool)} {from : ℕ} (t : Testing s j left at end kept from) (w : Walk) (asks : (asks_sizes w ≡ not j) × (asks_jagged w ≡ j)) where
+  -- where the walk stops the test stops
+  stopped : (o : Option ℕ) → NextStop s from end (asks_sizes w) (asks_jagged w) o → NextStop s from end (not j) j o
+  stopped o l = subst (λ y. NextStop s from end (not j) y o) asks.1 (subst (λ x. NextStop s from end x (asks_jagged w) o) asks.0 l)
 
-pub testing_start : {s : List ℕ} {j : Bool} {left at end : ℕ} {kept : List (Option Bool)} {next : ℕ} (w : Walk) → ToTest s j left at end kept → (asks_sizes w ≡ not j) × (asks_jagged w ≡ j) → NextStop s at end (asks_sizes w) (asks_jagged w) next
-    → Testing s j left at end kept next
-testing_start {s} {j} {left} {at} {end} w g a n =
-    let r = g.records in
-    let l = stopped w a n in
-    record {
-      bound = r.bound;
-      parts = from_stop (not j) j r.parts;
-      run = l.rest r.parts r.run;
-      some = λ ps a. ap (some_counts j s) (unique s end at ps r.parts a r.run) ∙ sym (from_counts j s r.parts);
-      ready = ready_same (onward s j r.parts) g.ready;
-      stop = l.stop;
-    }
+  -- the others from the first on at which it stops
+  onward : (ps : List Part) → Run s end at ps → some_counts j s ps ≡ some_counts j s (from_stop (not j) j t.others.records.parts)
+  onward ps a = t.some ps a ∙ sym (from_counts j s t.others.records.parts)
 
-module _ {s : List ℕ} {j : Bool} {left at end : ℕ} {kept : List (Option Bool)} {next : ℕ} (t : Testing s j left at end kept next) where
-  pub testing_end : end ≤ next → (ps : List Part) → Run s end at ps → false ≡ some_counts j s ps
-  testing_end h ps a = sym (t.some ps a ∙ ap (some_counts j s) (run_none s end next t.parts t.run h) ∙ counts_none j s)
+  pub testing_end : NextStop s from end (asks_sizes w) (asks_jagged w) None → (ps : List Part) → Run s end at ps → false ≡ some_counts j s ps
+  testing_end l ps a = sym (onward ps a ∙ ap (some_counts j s) (stopped None l t.others.records.parts t.others.records.run) ∙ counts_none j s)
 
-  module _ (h : next < end) where
-    here : First s end next t.parts
-    here = first s end next t.parts t.run h
+  -- that one is at `next`
+  module _ {next : ℕ} (stops_at : StopsFirst s from end (asks_sizes w) (asks_jagged w) next) where
+    l : StopsFirst s from end (not j) j next
+    l = stopped (Some next) stops_at
+
+    run : Run s end next (from_stop (not j) j t.others.records.parts)
+    run = l.rest t.others.records.parts t.others.records.run
+
+    here : First s end next (from_stop (not j) j t.others.records.parts)
+    here = first s end next _ run l.before
 
     -- the record does not lead: the test holds by it
     pub testing_holds : {r : Bool} → r ≡ is_lead (part_at s next) → r ≡ false → (ps : List Part) → Run s end at ps → true ≡ some_counts j s ps
-    testing_holds e q ps a = sym (t.some ps a ∙ ap (some_counts j s) here.is ∙ stop_counts j s (part_at s next) here.rest (t.stop h) (sym e ∙ q))
+    testing_holds e q ps a = sym (onward ps a ∙ ap (some_counts j s) here.is ∙ stop_counts j s (part_at s next) here.rest l.stop (sym e ∙ q))
 
     -- it leads
     module _ {r : Bool} (e : r ≡ is_lead (part_at s next)) (q : r ≡ true) where
-      led : Lead s end next t.parts
-      led = first_lead s t.run h (leading s next (sym e ∙ q))
+      led : Lead s end next (from_stop (not j) j t.others.records.parts)
+      led = first_lead s run l.before (leading s next (sym e ∙ q))
 
       pub name_there : next + 3 ≤ length s
-      name_there = omega (arith, led.there, t.bound)
-
-      pub others : Records s (next + 3) end
-      others = record { parts = led.rest; run = led.run; bound = t.bound }
+      name_there = omega (arith, led.there, t.others.records.bound)
 
       -- to definition i
       module _ {n : ℕ} {places : List ℕ} (tb : Table s n places) {name i : ℕ} (x : name ≡ record_name s next) (p : i ≡ definition_of (bundle_of s) name) where
@@ -106,55 +95,48 @@ module _ {s : List ℕ} {j : Bool} {left at end : ℕ} {kept : List (Option Bool
         equation true c = answer_equation (named_of true) jagged_test (bundle_of s) c (record_name s next)
         equation false c = answer_equation (named_of false) named_test (bundle_of s) c (record_name s next)
 
-        split : some_counts j s t.parts ≡ (answer_at j s i || some_counts j s led.rest)
-        split = ap (some_counts j s) led.is ∙ counts_more j s (lead (record_name s next)) led.rest ∙ ap (◌|| some_counts j s led.rest) (equation j t.ready.ends ∙ ap (answer_at j s) (sym is))
+        split : (ps : List Part) → Run s end at ps → some_counts j s ps ≡ (answer_at j s i || some_counts j s led.rest)
+        split ps a =
+            onward ps a ∙ ap (some_counts j s) led.is
+            ∙ counts_more j s (lead (record_name s next)) led.rest ∙ ap (◌|| some_counts j s led.rest) (equation j t.others.ready.ends ∙ ap (answer_at j s) (sym is))
 
-        one : i < count (bundle_of s) → lead_to s t.parts ≡ i ∷ lead_to s led.rest
-        one l = ap (lead_to s) led.is ∙ lead_one s (record_name s next) led.rest is l
+        -- the definitions that are tested from there on
+        ready_on : {ds : List ℕ} → lead_to s (lead (record_name s next) ∷ led.rest) ≡ ds → Ready s j left ds kept
+        ready_on f = ready_same (sym (ap (resolve (bundle_of s)) (from_names (not j) j t.others.records.parts)) ∙ ap (lead_to s) led.is ∙ f) t.others.ready
+
+        one : i < count (bundle_of s) → Ready s j left (i ∷ lead_to s led.rest) kept
+        one m = ready_on (lead_one s (record_name s next) led.rest is m)
 
         -- which is tested next
         pub testing_inside : i < count (bundle_of s) → Ready s j left (i ∷ []) kept
-        testing_inside l =
-            let g = ready_same (one l) t.ready in
-            record { ends = g.ends; within = λ y m. g.within y (Memᴰ.head (Memᴰ.eq_of_singleton m)); keeps = g.keeps }
+        testing_inside m =
+            let g = one m in
+            record { ends = g.ends; within = λ y k. g.within y (Memᴰ.head (Memᴰ.eq_of_singleton k)); keeps = g.keeps }
 
         -- its test holds
         pub testing_yes : {v : Bool} → v ≡ answer_at j s i → v ≡ true → (ps : List Part) → Run s end at ps → true ≡ some_counts j s ps
-        testing_yes a b ps w = sym (t.some ps w ∙ split ∙ rw (sym a ∙ b))
+        testing_yes a b ps r = sym (split ps r ∙ rw (sym a ∙ b))
 
-        module _ {after : ℕ} (w : Walk) (asks : (asks_sizes w ≡ not j) × (asks_jagged w ≡ j)) (stops_at : NextStop s (next + 3) end (asks_sizes w) (asks_jagged w) after) where
-          l : NextStop s (next + 3) end (not j) j after
-          l = stopped w asks stops_at
+        testing_on : {kept' : List (Option Bool)} → answer_at j s i ≡ false → Ready s j left (lead_to s led.rest) kept' → Testing s j left at end kept' (next + 3)
+        testing_on a g = record {
+          others = record { records = record { parts = led.rest; run = led.run; bound = t.others.records.bound }; ready = g };
+          some = λ ps r. split ps r ∙ rw a;
+        }
 
-          testing_on : {kept' : List (Option Bool)} → answer_at j s i ≡ false → Ready s j left (lead_to s led.rest) kept' → Testing s j left at end kept' after
-          testing_on a g = record {
-            bound = t.bound;
-            parts = from_stop (not j) j led.rest;
-            run = l.rest led.rest led.run;
-            some = λ ps w. t.some ps w ∙ split ∙ rw a (sym (from_counts j s led.rest));
-            ready = ready_same (onward s j led.rest) g;
-            stop = l.stop;
-          }
+        -- it does not
+        pub testing_next : {v : Bool} {kept' : List (Option Bool)} → i < count (bundle_of s) → v ≡ answer_at j s i → v ≡ false → Kept s j kept' → Testing s j left at end kept' (next + 3)
+        testing_next m a b k = testing_on (sym a ∙ b) (ready_behind (one m) k)
 
-          -- it does not
-          pub testing_next : {v : Bool} {kept' : List (Option Bool)} → i < count (bundle_of s) → v ≡ answer_at j s i → v ≡ false → Kept s j kept' → Testing s j left at end kept' after
-          testing_next m a b k = testing_on (sym a ∙ b) (ready_behind (ready_same (one m) t.ready) k)
+        -- there is none
+        none_is : count (bundle_of s) ≤ i → answer_at j s (definition_of (bundle_of s) (record_name s next)) ≡ false
+        unfolding answer_at find_type
+        none_is m = ap (holds (named_holds j s)) (found_none tb i (record_name s next) is (omega (arith, m, tb.count)))
 
-          -- there is none
-          none_is : count (bundle_of s) ≤ i → answer_at j s (definition_of (bundle_of s) (record_name s next)) ≡ false
-          unfolding answer_at find_type
-          none_is m = ap (holds (named_holds j s)) (found_none tb i (record_name s next) is (omega (arith, m, tb.count)))
-
-          pub testing_past : count (bundle_of s) ≤ i → Testing s j left at end kept after
-          testing_past m =
-              testing_on (ap (answer_at j s) is ∙ none_is m)
-              (ready_same (ap (lead_to s) led.is ∙ lead_none s (record_name s next) led.rest is m) t.ready)
+        pub testing_past : count (bundle_of s) ≤ i → Testing s j left at end kept (next + 3)
+        testing_past m = testing_on (ap (answer_at j s) is ∙ none_is m) (ready_on (lead_none s (record_name s next) led.rest is m))
 
 -- definition i
 module _ {s : List ℕ} {n : ℕ} {places : List ℕ} (tb : Table s n places) {j : Bool} {left i : ℕ} {kept : List (Option Bool)} (h : i < n) (g : Ready s j left (i ∷ []) kept) where
-  pub place_below : i < 256
-  place_below = omega (arith, tb.count, tb.placed.room)
-
   pub some_left : left ≡ 0 → ⊥
   some_left e = settled_zero (bundle_of s) i (subst (λ k. settled (bundle_of s) k i ≡ true) e (g.within i (Memᴰ.head refl)))
 

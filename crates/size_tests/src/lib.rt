@@ -13,7 +13,7 @@ ghost use Rattle.scan.specs.Scan.{Run, asks_sizes, asks_jagged};
 ghost use Rattle.sizes.specs.Tests.{answer_at, Acyclic, definition_size_depends, Kept};
 ghost use Rattle.size_tests.specs.Scans.{is_jagged, inline_holds, some_counts, Ready, ToTest, HeadTested};
 
-use bundle::{Form, TypeForm};
+use bundle::{Definitions, Form, TypeForm};
 use scan::Walk;
 
 // What a type is tested for: that its size depends on field references, or that a jagged array is inside it.
@@ -33,18 +33,19 @@ fn walk_of(test: TestOf) -> Walk
     }
 }
 
+// The tests of a definition's own record promise `HeadTested` of `s`, `at` and `end`: a struct for these would be made in named_type_test
+// alone, and each of the four would take it apart, as `let Head { s, at, end, .. } = *head;`, and promise the same. Those over `kept`
+// promise `Kept`: a struct of `definitions`, `test` and `kept` would hold it, and each of the three would promise instead that the first
+// two stay.
+
 // The size test by the own record of the enum at `at`, with the tag behind it: None where it holds, or where the records start that
 // it is up to. The tag counts only if the variants are not all primitives of one size.
 fn enum_head_test(s: &[u8], at: usize, end: usize) -> Option<usize>
     requires { (length s.now ≤ size_limit) × (Ok end ≡ step_of (read_ty 24 s.now at)) × (form_of (get_or s.now at 0) ≡ OfType Enum) }
     ensures { HeadTested s.now false at end result }
 {
-    let Ok((n, next)) = bundle::count_at(s, at + 1) else {
-        return None;
-    };
-    let Ok(after) = bundle::expr_at(s, next, bundle::DEPTH_INSIDE) else {
-        return None;
-    };
+    let (n, next) = bundle::count_at(s, at + 1).ok()?;
+    let after = bundle::expr_at(s, next, bundle::DEPTH_INSIDE).ok()?;
     let passed = sizes::is_constant_to(s, next, after, bundle::DEPTH_INSIDE)
         || sizes::one_size(s, after, bundle::DEPTH_INSIDE, n);
     passed.then_some(after)
@@ -92,55 +93,53 @@ fn head_test(s: &[u8], at: usize, end: usize, test: TestOf) -> Option<usize>
 // that are known.
 #[cycle(tests)]
 fn named_type_test(
-    s: &[u8],
-    places: &[u16],
-    count: usize,
+    definitions: &Definitions<'_>,
     kept: &mut [Option<bool>; bundle::DEFINITIONS],
     test: TestOf,
     i: usize,
     left: usize,
 ) -> bool
-    requires { Table s.now count places.now × (i < count) × (length s.now ≤ size_limit) × Ready s.now (is_jagged test) left (i ∷ []) kept.old }
-    ensures { (result ≡ answer_at (is_jagged test) s.now i) × Kept s.now (is_jagged test) kept.new }
+    requires { (i < definitions.now.count) × (length definitions.now.bytes.now ≤ size_limit) × Ready definitions.now.bytes.now (is_jagged test) left (i ∷ []) kept.old }
+    ensures { (result ≡ answer_at (is_jagged test) definitions.now.bytes.now i) × Kept definitions.now.bytes.now (is_jagged test) kept.new }
 {
+    let Definitions { bytes, places, .. } = *definitions;
     if let Some(holds) = kept[i] {
         return holds;
     }
     let end = places[i + 1] as usize - 3;
-    let Some(at) = head_test(s, places[i] as usize, end, test) else {
+    let Some(at) = head_test(bytes, places[i] as usize, end, test) else {
         kept[i] = Some(true);
         return true;
     };
-    let holds = inline_type_test(s, places, count, kept, test, at, end, left - 1);
+    let holds = inline_type_test(definitions, kept, test, at, end, left - 1);
     kept[i] = Some(holds);
     holds
 }
 
-// The inline-type test of the records from `at` to `end`.
+// The inline-type test of the records from `at` to `end`. lookup::next_led passes over what a test ends at: one function for both would
+// give `Option<Result<(usize, usize), ()>>`, with `Err` for such a record, and each caller would match on that.
 #[cycle(tests)]
 fn inline_type_test(
-    s: &[u8],
-    places: &[u16],
-    count: usize,
+    definitions: &Definitions<'_>,
     kept: &mut [Option<bool>; bundle::DEFINITIONS],
     test: TestOf,
     at: usize,
     end: usize,
     left: usize,
 ) -> bool
-    requires { Table s.now count places.now × (length s.now ≤ size_limit) × ToTest s.now (is_jagged test) left at end kept.old }
-    ensures { ((ps : List Part) → Run s.now end at ps → result ≡ some_counts (is_jagged test) s.now ps) × Kept s.now (is_jagged test) kept.new }
+    requires { (length definitions.now.bytes.now ≤ size_limit) × ToTest definitions.now.bytes.now (is_jagged test) left at end kept.old }
+    ensures { ((ps : List Part) → Run definitions.now.bytes.now end at ps → result ≡ some_counts (is_jagged test) definitions.now.bytes.now ps) × Kept definitions.now.bytes.now (is_jagged test) kept.new }
 {
+    let bytes = definitions.bytes;
     let walk = walk_of(test);
-    let mut next = scan::next_stop(s, at, end, walk);
-    while next < end {
-        if !scan::leads(s, next) {
+    let mut from = at;
+    while let Some(next) = scan::next_stop(bytes, from, end, walk) {
+        if !scan::leads(bytes, next) {
             return true;
         }
-        let found = lookup::definition_of(s, places, count, bundle::u16_at(s, next + 1));
-        next = scan::next_stop(s, next + 3, end, walk);
-        if let Some(i) = found {
-            if named_type_test(s, places, count, kept, test, i, left) {
+        from = next + 3;
+        if let Some(i) = lookup::definition_of(definitions, bundle::u16_at(bytes, next + 1)) {
+            if named_type_test(definitions, kept, test, i, left) {
                 return true;
             }
         }
@@ -148,65 +147,77 @@ fn inline_type_test(
     false
 }
 
-// Whether the size of definition `i` depends on field references. `kept` has the size test's answers.
-pub fn type_size_depends_on_field_refs(
-    s: &[u8],
-    places: &[u16],
-    count: usize,
-    kept: &mut [Option<bool>; bundle::DEFINITIONS],
-    i: usize,
-) -> bool
-    requires { Table s.now count places.now × (i < count) × Acyclic s.now × Kept s.now false kept.old }
-    ensures { (result ≡ definition_size_depends (bundle_of s.now) i) × Kept s.now false kept.new }
-{
-    named_type_test(s, places, count, kept, TestOf::Size, i, count)
-}
-
 // The inline-type test of the type that was read at `at`.
 fn type_test(
-    s: &[u8],
-    places: &[u16],
-    count: usize,
+    definitions: &Definitions<'_>,
     kept: &mut [Option<bool>; bundle::DEFINITIONS],
     test: TestOf,
     at: usize,
     depth: usize,
 ) -> bool
-    requires { Table s.now count places.now × Reads (read_ty depth s.now at) × Acyclic s.now × Kept s.now (is_jagged test) kept.old }
-    ensures { (result ≡ inline_holds (is_jagged test) s.now (type_at depth s.now at)) × Kept s.now (is_jagged test) kept.new }
+    requires { Reads (read_ty depth definitions.now.bytes.now at) × Acyclic definitions.now.bytes.now × Kept definitions.now.bytes.now (is_jagged test) kept.old }
+    ensures { (result ≡ inline_holds (is_jagged test) definitions.now.bytes.now (type_at depth definitions.now.bytes.now at)) × Kept definitions.now.bytes.now (is_jagged test) kept.new }
 {
-    match bundle::type_at(s, at, depth) {
-        Ok(end) => inline_type_test(s, places, count, kept, test, at, end, count),
+    match bundle::type_at(definitions.bytes, at, depth) {
+        Ok(end) => inline_type_test(definitions, kept, test, at, end, definitions.count),
         Err(_) => false,
     }
 }
 
-// Whether the size of the type that was read at `at`, written inline, depends on field references.
-pub fn type_size_depends_on_field_refs_recursive(
-    s: &[u8],
-    places: &[u16],
-    count: usize,
-    kept: &mut [Option<bool>; bundle::DEFINITIONS],
-    at: usize,
-    depth: usize,
-) -> bool
-    requires { Table s.now count places.now × Reads (read_ty depth s.now at) × Acyclic s.now × Kept s.now false kept.old }
-    ensures { (result ≡ inline_size_depends (bundle_of s.now) (type_at depth s.now at)) × Kept s.now false kept.new }
-{
-    type_test(s, places, count, kept, TestOf::Size, at, depth)
+// The answers of both tests for the definitions of a bundle, as far as they are known. That a test leaves the definitions as they are only
+// a clause can say, here and in checks and cycles. The tests have the names of the original: each is one call, of the definition or of the
+// type.
+#[derive(Drop)]
+pub struct TestAnswers<'a> {
+    pub definitions: Definitions<'a>,
+    sizes: [Option<bool>; bundle::DEFINITIONS],
+    jagged: [Option<bool>; bundle::DEFINITIONS],
+    pub ghost acyclic: { Acyclic definitions.bytes.now },
+    ghost sizes_kept: { Kept definitions.bytes.now false sizes },
+    ghost jagged_kept: { Kept definitions.bytes.now true jagged },
 }
 
-// Whether a jagged array is in the type that was read at `at` or in what it leads to.
-pub fn type_contains_jagged_array(
-    s: &[u8],
-    places: &[u16],
-    count: usize,
-    kept: &mut [Option<bool>; bundle::DEFINITIONS],
-    at: usize,
-    depth: usize,
-) -> bool
-    requires { Table s.now count places.now × Reads (read_ty depth s.now at) × Acyclic s.now × Kept s.now true kept.old }
-    ensures { (result ≡ contains_jagged_array (bundle_of s.now) (type_at depth s.now at)) × Kept s.now true kept.new }
-{
-    type_test(s, places, count, kept, TestOf::Jagged, at, depth)
+impl<'a> TestAnswers<'a> {
+    // No answer is known yet.
+    pub fn new(definitions: &Definitions<'a>) -> TestAnswers<'a>
+        requires { Acyclic definitions.now.bytes.now }
+        ensures { result.definitions ≡ definitions.now }
+    {
+        TestAnswers {
+            definitions: *definitions,
+            sizes: [None; bundle::DEFINITIONS],
+            jagged: [None; bundle::DEFINITIONS],
+        }
+    }
+
+    // Whether the size of definition `i` depends on field references.
+    pub fn type_size_depends_on_field_refs(&mut self, i: usize) -> bool
+        requires { i < self.old.definitions.count }
+        ensures { (result ≡ definition_size_depends (bundle_of self.old.definitions.bytes.now) i) × (self.new.definitions ≡ self.old.definitions) }
+    {
+        let count = self.definitions.count;
+        named_type_test(&self.definitions, &mut self.sizes, TestOf::Size, i, count)
+    }
+
+    // Whether the size of the type that was read at `at`, written inline, depends on field references.
+    pub fn type_size_depends_on_field_refs_recursive(&mut self, at: usize, depth: usize) -> bool
+        requires { Reads (read_ty depth self.old.definitions.bytes.now at) }
+        ensures { (result ≡ inline_size_depends (bundle_of self.old.definitions.bytes.now) (type_at depth self.old.definitions.bytes.now at)) × (self.new.definitions ≡ self.old.definitions) }
+    {
+        type_test(&self.definitions, &mut self.sizes, TestOf::Size, at, depth)
+    }
+
+    // Whether a jagged array is in the type that was read at `at` or in what it leads to.
+    pub fn type_contains_jagged_array(&mut self, at: usize, depth: usize) -> bool
+        requires { Reads (read_ty depth self.old.definitions.bytes.now at) }
+        ensures { (result ≡ contains_jagged_array (bundle_of self.old.definitions.bytes.now) (type_at depth self.old.definitions.bytes.now at)) × (self.new.definitions ≡ self.old.definitions) }
+    {
+        type_test(
+            &self.definitions,
+            &mut self.jagged,
+            TestOf::Jagged,
+            at,
+            depth,
+        )
+    }
 }

@@ -12,7 +12,7 @@ use mathlib.Core.Path.{◌≡◌, refl, sym, ap, subst, ◌∙◌}
 use lib.ListN.{length, get_or}
 use Rattle.meaning.specs.Calls.{Outcome, result, refusal, due_of, on_bundle}
 use Rattle.meaning.specs.Circle.{circles}
-use Rattle.meaning.specs.Kinds.{Form, OfType, Array}
+use Rattle.meaning.specs.Kinds.{Form, TypeForm, OfType, Primitive, TypeRef, Struct, Union, Enum, Array, SizeUnion}
 use Rattle.meaning.specs.Lookup.{type_at}
 use Rattle.meaning.specs.Reader.{Read, ok, refused}
 use Rattle.meaning.specs.ReadBundle.{read_bundle}
@@ -20,9 +20,7 @@ use Rattle.meaning.specs.ReadExpr.{read_expr}
 use Rattle.meaning.specs.ReadType.{read_ty}
 use Rattle.meaning.specs.Tree.{Bundle}
 use Rattle.bundle.specs.declared.Layout.{Layout}
-use Rattle.bundle.specs.declared.TypeForm.{TypeForm}
-use Rattle.bundle.specs.declared.TypeForm.TheVariants as code
-use Rattle.bundle.specs.View.{type_form_meant, Reads}
+use Rattle.bundle.specs.View.{Reads}
 use Rattle.bundle.specs.Definitions.{bundle_of, zero_group, Table}
 use Rattle.bundle.specs.Definitions as bundles
 use Rattle.bundle.specs.Expressions.{expr_at}
@@ -31,7 +29,7 @@ use Rattle.bundle.proofs.ExprLaws.{Opened}
 use Rattle.bundle.proofs.LookupLaws.{placed_type}
 use Rattle.bundle.proofs.Parts.{enum_at, array_at}
 use Rattle.bundle.proofs.Trees.{ended_reads}
-use Rattle.bundle.proofs.TypeTrees.{primitive_tree, type_ref_tree, struct_tree, union_tree, size_union_tree}
+use Rattle.bundle.proofs.TypeTrees.{type_form, primitive_tree, type_ref_tree, struct_tree, union_tree, size_union_tree}
 use Rattle.fixed_meaning.specs.Value.{Value, unvalued, value_of}
 use Rattle.fixed_meaning.specs.Valuing.{array_value, value_due, valuing}
 use Rattle.fixed_meaning.proofs.Within.{no_definition}
@@ -39,15 +37,18 @@ use Rattle.values.specs.Meant.{value_meant}
 
 -- a type that was read
 module _ {d at : ℕ} {s : List ℕ} {f : Form} (o : Opened d at s f) (r : Reads (read_ty d s at)) where
-  pub not_array : (t : TypeForm) → f ≡ OfType (type_form_meant t) → (t ≡ code.Array → ⊥) → value_meant (Err Varies) ≡ array_value (some (bundles.type_at d s at))
-  unfolding type_form_meant value_meant array_value
-  not_array code.Primitive p k = rw (primitive_tree o r p)
-  not_array code.TypeRef p k = rw (type_ref_tree o r p)
-  not_array code.Struct p k = rw (struct_tree o r zero_group p)
-  not_array code.Union p k = rw (union_tree o r zero_group p)
-  not_array code.Enum p k = rw (enum_at o r p).parts.tree
-  not_array code.Array p k = absurd (k refl)
-  not_array code.SizeUnion p k = rw (size_union_tree o r zero_group p)
+  pub not_array : (f ≡ OfType Array → ⊥) → value_meant (Err Varies) ≡ array_value (some (bundles.type_at d s at))
+  unfolding value_meant array_value
+  not_array q = let t = type_form o r in go t.0 t.1
+    where
+      go : (t : TypeForm) → f ≡ OfType t → value_meant (Err Varies) ≡ array_value (some (bundles.type_at d s at))
+      go Primitive p = rw (primitive_tree o r p)
+      go TypeRef p = rw (type_ref_tree o r p)
+      go Struct p = rw (struct_tree o r zero_group p)
+      go Union p = rw (union_tree o r zero_group p)
+      go Enum p = rw (enum_at o r p).parts.tree
+      go Array p = absurd (q p)
+      go SizeUnion p = rw (size_union_tree o r zero_group p)
 
   module _ (p : f ≡ OfType Array) where
     pub size_there : Reads (read_expr (d - 1) s (at + 11))

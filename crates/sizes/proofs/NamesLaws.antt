@@ -6,32 +6,9 @@ use mathlib.Core.Bool.{true, false, false≢true}
 use mathlib.Core.Path.{◌≡◌, refl, sym, ap, ◌∙◌}
 use mathlib.Core.List.{List}
 use Rattle.meaning.specs.Kinds as kinds
-use Rattle.bundle.specs.declared.Form.{Form}
-use Rattle.bundle.specs.declared.Form.TheVariants.{OfExpr, OfType, OfMember, OfRecord, Unknown}
-use Rattle.bundle.specs.declared.ExprForm.{ExprForm}
-use Rattle.bundle.specs.declared.ExprForm.TheVariants.{Literal, FieldRef, Sizeof, Alignof, Binary, Unary}
-use Rattle.bundle.specs.View.{form_meant, expr_form_meant}
 use Rattle.scan.specs.Scan.{form_at}
 use Rattle.sizes.specs.Scan.{also, next_at, names_in, references_from, found_of}
 use Rattle.sizes.proofs.ScanLaws.{step, nothing_left, record_forward}
-
--- a form that is no expression's, and an expression's that is no field reference's
-pub no_names : (f : Form) → ((x : ExprForm) → f ≡ OfExpr x → ⊥) → names_in (form_meant f) ≡ None
-unfolding form_meant names_in
-no_names (OfExpr x) o = absurd (o x refl)
-no_names (OfType x) o = refl
-no_names (OfMember w) o = refl
-no_names (OfRecord x) o = refl
-no_names Unknown o = refl
-
-pub no_reference : (e : ExprForm) → ((n : ℕ) → e ≡ FieldRef n → ⊥) → names_in (form_meant (OfExpr e)) ≡ None
-unfolding form_meant expr_form_meant names_in
-no_reference (Literal w) o = refl
-no_reference (FieldRef n) o = absurd (o n refl)
-no_reference Sizeof o = refl
-no_reference Alignof o = refl
-no_reference Binary o = refl
-no_reference Unary o = refl
 
 -- a record of form f at `at`
 module _ (s : List ℕ) (at end : ℕ) (f : kinds.Form) (e : f ≡ form_at s at) (l : at < end) where

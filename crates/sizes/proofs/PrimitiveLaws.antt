@@ -18,13 +18,11 @@ use Rattle.meaning.specs.Lookup.{list_of, as_primitive}
 use Rattle.meaning.specs.ReadType.{member_head, read_members, read_ty}
 use Rattle.meaning.specs.Sizes.{get_primitive_size, has_size, one_size, constant_size_variants, is_enum_with_constant_size_variants}
 use Rattle.meaning.specs.Tree.{Member, member, more}
-use Rattle.bundle.specs.declared.TypeForm.{TypeForm}
-use Rattle.bundle.specs.declared.TypeForm.TheVariants as code
-use Rattle.bundle.specs.View.{step_of, Reads, value_or, type_form_meant}
+use Rattle.bundle.specs.View.{step_of, Reads, value_or}
 use Rattle.bundle.specs.Definitions.{type_at, members_at, zero_group}
 use Rattle.bundle.proofs.ExprLaws.{Opened}
 use Rattle.bundle.proofs.TypeLaws.{primitive_ends}
-use Rattle.bundle.proofs.TypeTrees.{type_deep, type_there, no_other, primitive_tree, type_ref_tree, struct_tree, union_tree, size_union_tree}
+use Rattle.bundle.proofs.TypeTrees.{type_deep, type_there, type_form, primitive_tree, type_ref_tree, struct_tree, union_tree, size_union_tree}
 use Rattle.meaning.proofs.KindTable.{and_0, and_1}
 use Rattle.bundle.proofs.Trees.{ended}
 use Rattle.bundle.proofs.PartTrees.{member_type_reads, others_read, members_split}
@@ -85,30 +83,34 @@ module _ {d at : ℕ} {s : List ℕ} {f : Form} (o : Opened d at s f) (r : Reads
   primitive_by_lem kinds.Array p = rw (array_at o r p).parts.tree
 
   -- not a primitive
-  pub primitive_not : (t : TypeForm) → f ≡ OfType (type_form_meant t) → (t ≡ code.Primitive → ⊥) → size_shown (as_primitive (type_at d s at)) ≡ None
-  unfolding type_form_meant
-  primitive_not code.Primitive p q = absurd (q refl)
-  primitive_not code.TypeRef p q = ap size_shown (primitive_by_lem kinds.TypeRef p)
-  primitive_not code.Struct p q = ap size_shown (primitive_by_lem kinds.Struct p)
-  primitive_not code.Union p q = ap size_shown (primitive_by_lem kinds.Union p)
-  primitive_not code.Enum p q = ap size_shown (primitive_by_lem kinds.Enum p)
-  primitive_not code.Array p q = ap size_shown (primitive_by_lem kinds.Array p)
-  primitive_not code.SizeUnion p q = ap size_shown (primitive_by_lem kinds.SizeUnion p)
+  pub primitive_not : (f ≡ OfType Primitive → ⊥) → size_shown (as_primitive (type_at d s at)) ≡ None
+  primitive_not q = let t = type_form o r in go t.0 t.1
+    where
+      go : (t : kinds.TypeForm) → f ≡ OfType t → size_shown (as_primitive (type_at d s at)) ≡ None
+      go Primitive p = absurd (q p)
+      go kinds.TypeRef p = ap size_shown (primitive_by_lem kinds.TypeRef p)
+      go kinds.Struct p = ap size_shown (primitive_by_lem kinds.Struct p)
+      go kinds.Union p = ap size_shown (primitive_by_lem kinds.Union p)
+      go kinds.Enum p = ap size_shown (primitive_by_lem kinds.Enum p)
+      go kinds.Array p = ap size_shown (primitive_by_lem kinds.Array p)
+      go kinds.SizeUnion p = ap size_shown (primitive_by_lem kinds.SizeUnion p)
 
   -- not an enum
-  pub constant_enum_not : (t : TypeForm) → f ≡ OfType (type_form_meant t) → (t ≡ code.Enum → ⊥) → is_enum_with_constant_size_variants (type_at d s at) ≡ false
-  unfolding type_form_meant
-  constant_enum_not code.Primitive p q = rw (primitive_tree o r p)
-  constant_enum_not code.TypeRef p q = rw (type_ref_tree o r p)
-  constant_enum_not code.Struct p q = rw (struct_tree o r zero_group p)
-  constant_enum_not code.Union p q = rw (union_tree o r zero_group p)
-  constant_enum_not code.Enum p q = absurd (q refl)
-  constant_enum_not code.Array p q = rw (array_at o r p).parts.tree
-  constant_enum_not code.SizeUnion p q = rw (size_union_tree o r zero_group p)
+  pub constant_enum_not : (f ≡ OfType kinds.Enum → ⊥) → is_enum_with_constant_size_variants (type_at d s at) ≡ false
+  constant_enum_not q = let t = type_form o r in go t.0 t.1
+    where
+      go : (t : kinds.TypeForm) → f ≡ OfType t → is_enum_with_constant_size_variants (type_at d s at) ≡ false
+      go Primitive p = rw (primitive_tree o r p)
+      go kinds.TypeRef p = rw (type_ref_tree o r p)
+      go kinds.Struct p = rw (struct_tree o r zero_group p)
+      go kinds.Union p = rw (union_tree o r zero_group p)
+      go kinds.Enum p = absurd (q p)
+      go kinds.Array p = rw (array_at o r p).parts.tree
+      go kinds.SizeUnion p = rw (size_union_tree o r zero_group p)
 
 -- a primitive ends behind its kind byte
 primitive_ends_at : (d at w : ℕ) (s : List ℕ) → Reads (read_ty d s at) → Some w ≡ size_shown (as_primitive (type_at d s at)) → Ok (at + 1) ≡ step_of (read_ty d s at)
-primitive_ends_at d at w s r e = go (form_of (get_or s at 0)) refl
+primitive_ends_at d at w s r e = let t = type_form o r in go t.0 t.1
   where
     o : Opened d at s (form_of (get_or s at 0))
     o = record { deep = type_deep d at s r; there = type_there d at s r; form = refl }
@@ -116,18 +118,14 @@ primitive_ends_at d at w s r e = go (form_of (get_or s at 0)) refl
     other : (t : kinds.TypeForm) → form_of (get_or s at 0) ≡ OfType t → primitive_by o r t ≡ nothing → ⊥
     other t p q = let h = e ∙ ap size_shown (primitive_by_lem o r t p ∙ q) in let z : ◌≡◌ {A = ℕ} 0 1 = cc in omega arith
 
-    go : (f : Form) → form_of (get_or s at 0) ≡ f → Ok (at + 1) ≡ step_of (read_ty d s at)
-    go (OfType Primitive) p = sym (primitive_ends o p)
-    go (OfType kinds.TypeRef) p = absurd (other kinds.TypeRef p refl)
-    go (OfType kinds.Struct) p = absurd (other kinds.Struct p refl)
-    go (OfType kinds.Union) p = absurd (other kinds.Union p refl)
-    go (OfType kinds.Enum) p = absurd (other kinds.Enum p refl)
-    go (OfType kinds.Array) p = absurd (other kinds.Array p refl)
-    go (OfType kinds.SizeUnion) p = absurd (other kinds.SizeUnion p refl)
-    go (kinds.OfExpr x) p = absurd (no_other o r (λ f q. let z : ◌≡◌ {A = ℕ} 0 1 = cc in omega arith))
-    go (kinds.OfMember w) p = absurd (no_other o r (λ f q. let z : ◌≡◌ {A = ℕ} 0 1 = cc in omega arith))
-    go (kinds.OfRecord x y z) p = absurd (no_other o r (λ f q. let z : ◌≡◌ {A = ℕ} 0 1 = cc in omega arith))
-    go kinds.Unknown p = absurd (no_other o r (λ f q. let z : ◌≡◌ {A = ℕ} 0 1 = cc in omega arith))
+    go : (t : kinds.TypeForm) → form_of (get_or s at 0) ≡ OfType t → Ok (at + 1) ≡ step_of (read_ty d s at)
+    go Primitive p = sym (primitive_ends o p)
+    go kinds.TypeRef p = absurd (other kinds.TypeRef p refl)
+    go kinds.Struct p = absurd (other kinds.Struct p refl)
+    go kinds.Union p = absurd (other kinds.Union p refl)
+    go kinds.Enum p = absurd (other kinds.Enum p refl)
+    go kinds.Array p = absurd (other kinds.Array p refl)
+    go kinds.SizeUnion p = absurd (other kinds.SizeUnion p refl)
 
 -- a test of the size that was shown
 shown_holds : (test : ℕ → Bool) (w : ℕ) (x : Option ℕ) → Some w ≡ size_shown x → holds (λ k. test (get_primitive_size k)) x ≡ test w
@@ -193,11 +191,6 @@ module _ (d : ℕ) (s : List ℕ) (n at size : ℕ) where
   pub record Passing (k next : ℕ) : Type 0 where
     pub reads : Reads (read_members (read_ty d) 0x52 (n - k) s next)
     pub same : all (has_size size) (list_of (members_at d 0x52 (n - k) s next)) ≡ all (has_size size) (list_of (members_at d 0x52 n s at))
-
-  pub passing_start : Reads (read_members (read_ty d) 0x52 n s at) → Passing 0 at
-  passing_start r =
-      let p : n - 0 ≡ n = omega arith in
-      record { reads = rw p r; same = rw p }
 
   pub passing_next : {k next : ℕ} → Passing k next → k < n → (i : ℕ) → Ok i ≡ step_of (member_head 0x52 s next)
       → (w : ℕ) → Some w ≡ size_shown (as_primitive (type_at d s i)) → w ≡ size → Passing (k + 1) (i + 1)

@@ -17,7 +17,10 @@ ghost use Rattle.scan.specs.Scan.{record_length};
 ghost use Rattle.sizes.specs.Paths.{Fit, target_meant, size_shown};
 ghost use Rattle.sizes.specs.Scan.{next_at, names_in, path_at, references_from, found_of};
 
-use bundle::{ExprForm, Form, TypeForm};
+use bundle::{ExprForm, Form, MemberForm, TypeForm};
+
+// The lengths of records are those of scan::piece_of: with one function for both, each would match the form again, scan for TypeRef, Array
+// and SizeUnion and this crate for SizeUnion.
 
 // Where the expression's record at `at` ends.
 #[tactic(auto, unfolding(bundle::specs::View::expr_form_meant, scan::specs::Scan::record_length))]
@@ -61,7 +64,7 @@ fn next_at(s: &[u8], at: usize, form: Form) -> usize
     match form {
         Form::OfExpr(e) => expr_end(at, e),
         Form::OfType(t) => type_end(s, at, t),
-        Form::OfMember(w) => at + 3 + usize::from(w),
+        Form::OfMember(m) => at + 3 + usize::from(bundle::value_width(m)),
         Form::OfRecord(_) => at + 1,
         Form::Unknown => at + 1,
     }
@@ -121,6 +124,8 @@ pub fn is_constant(s: &[u8], at: usize, depth: usize) -> bool
     is_constant_to(s, at, end, depth)
 }
 
+// A field reference is told by its place, as in the readers of crate bundle: what is known to stand there is a clause.
+
 // The count of names of the field reference at `at`. They stand behind its kind byte, two bytes each.
 #[tactic(auto, using(crate::proofs::PathLaws::path_counted))]
 pub fn path_length(s: &[u8], at: usize) -> usize
@@ -163,7 +168,7 @@ pub fn parse_field_reference(s: &[u8], at: usize, current: u16) -> Target
 // U8 to U64, I8 to I64, Char, F16, F32, F64.
 const SIZES: [u8; 12] = [1, 2, 4, 8, 1, 2, 4, 8, 1, 2, 4, 8];
 
-// The bytes of a primitive.
+// The bytes of a primitive, by its kind byte: an enum of the twelve and the way to it from a byte would stand for one place in a table.
 #[tactic(auto, using(crate::proofs::PrimitiveLaws::primitive_kind))]
 pub fn get_primitive_size(kind: u8) -> u8
     requires { form_of kind ≡ OfType Primitive }
@@ -173,29 +178,27 @@ pub fn get_primitive_size(kind: u8) -> u8
 }
 
 // The size of the type that was read at `at`, where it is a primitive; other types have no size of their own.
+#[tactic(auto, using(bundle::proofs::TypeTrees::type_there))]
 fn primitive_at(s: &[u8], at: usize, depth: usize) -> Option<u8>
     requires { Reads (read_ty depth s.now at) }
     ensures { result ≡ size_shown (as_primitive (type_at depth s.now at)) }
 {
-    let kind = s[at];
-    let Form::OfType(t) = bundle::form_of(kind) else {
+    if !bundle::type_is(s, at, TypeForm::Primitive) {
         return None;
-    };
-    let TypeForm::Primitive = t else {
-        return None;
-    };
-    Some(get_primitive_size(kind))
+    }
+    Some(get_primitive_size(s[at]))
 }
 
-// Whether the `count` enum variants that were read at `at` are all primitives of `size` bytes.
+// Whether the `count` enum variants that were read at `at` are all primitives of `size` bytes. It goes from member to member as
+// fixed::measure_members and offsets::write_offsets do: each finds a member's end by its own work, so an iterator over members would read
+// each type twice, and one function for the three would take that work as a closure and keep a fact of its own for each.
 fn all_of_size(s: &[u8], at: usize, depth: usize, count: usize, size: u8) -> bool
     requires { Reads (read_members (read_ty depth) 0x52 count s.now at) }
     ensures { result ≡ all (has_size size) (list_of (members_at depth 0x52 count s.now at)) }
 {
-    let form = bundle::form_of(0x52);
     let mut next = at;
     for _ in 0..count {
-        let Ok(body) = bundle::member_head_at(s, next, 0x52, form) else {
+        let Ok(body) = bundle::member_head_at(s, next, MemberForm::EnumVariant) else {
             return false;
         };
         let Some(w) = primitive_at(s, body, depth) else {
@@ -217,7 +220,7 @@ pub fn one_size(s: &[u8], at: usize, depth: usize, count: usize) -> bool
     if count == 0 {
         return false;
     }
-    let Ok(body) = bundle::member_head_at(s, at, 0x52, bundle::form_of(0x52)) else {
+    let Ok(body) = bundle::member_head_at(s, at, MemberForm::EnumVariant) else {
         return false;
     };
     let Some(w) = primitive_at(s, body, depth) else {
@@ -227,16 +230,14 @@ pub fn one_size(s: &[u8], at: usize, depth: usize, count: usize) -> bool
 }
 
 // Whether the type that was read at `at` is an enum of two variants or more, all primitives of one size.
+#[tactic(auto, using(bundle::proofs::TypeTrees::type_there))]
 pub fn is_enum_with_constant_size_variants(s: &[u8], at: usize, depth: usize) -> bool
     requires { Reads (read_ty depth s.now at) }
     ensures { result ≡ is_enum_with_constant_size_variants (type_at depth s.now at) }
 {
-    let Form::OfType(t) = bundle::form_of(s[at]) else {
+    if !bundle::type_is(s, at, TypeForm::Enum) {
         return false;
-    };
-    let TypeForm::Enum = t else {
-        return false;
-    };
+    }
     let Ok((n, next)) = bundle::count_at(s, at + 1) else {
         return false;
     };

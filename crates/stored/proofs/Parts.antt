@@ -91,6 +91,7 @@ pub layout_parts : (size alignment : ℕ) (offsets : List ℕ) → layout_bytes 
 unfolding layout_bytes
 layout_parts size alignment offsets = append_assoc (number_bytes 8 size) (number_bytes 8 alignment) (numbers_bytes 4 offsets)
 
--- numbers that are their own values
-pub plain_numbers : (r : Bool) (w : ℕ) (ns rest : List ℕ) → Whether r (rest ≡ numbers_bytes w (map (λ n. n) ns)) → Whether r (rest ≡ numbers_bytes w ns)
-plain_numbers r w ns rest h = rw (map-id ns) at h
+-- behind a number, numbers that are their own values
+pub plain_numbers : (r : Bool) (w head : ℕ) (ns due : List ℕ) → Whether r (due ≡ number_bytes 8 head ++ numbers_bytes w (map (λ n. n) ns))
+    → Whether r (due ≡ number_bytes 8 head ++ numbers_bytes w ns)
+plain_numbers r w head ns due h = rw (map-id ns) at h

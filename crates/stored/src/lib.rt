@@ -1,7 +1,7 @@
 // Stored answers: whether an answer is the one in a list of bytes.
 #![tactic(auto)]
 
-ghost use Rattle.std.specs.Prelude.{◌≡◌, ◌≤◌, length, map};
+ghost use Rattle.std.specs.Prelude.{◌≡◌, ◌≤◌, ◌++◌, length, map};
 ghost use Rattle.refusal.specs.Numbers.{number};
 ghost use Rattle.stored.specs.Examples.{Examples};
 ghost use Rattle.stored.specs.Stored.{Whether, Cut, number_bytes, numbers_bytes, layout_bytes, chain_bytes, bits_of, refusal_bytes, IsDue};
@@ -44,6 +44,17 @@ pub fn numbers_are<N: Number>(list: &[N], due: &[u8]) -> bool
     rest.is_empty()
 }
 
+// Whether the bytes are those of a number of 64 bits and of the numbers behind it.
+fn headed<N: Number>(head: u64, numbers: &[N], due: &[u8]) -> bool
+    requires { N.BYTES ≤ 8 }
+    ensures { Whether result (due.now ≡ number_bytes 8 head ++ numbers_bytes N.BYTES (map N.value numbers.now)) }
+{
+    let Some(rest) = due.strip_prefix(&head.to_le_bytes()) else {
+        return false;
+    };
+    numbers_are(numbers, rest)
+}
+
 // Whether the bytes are those of size, alignment and offsets.
 pub fn layout_is(size: u64, alignment: u64, offsets: &[u32], due: &[u8]) -> bool
     ensures { Whether result (due.now ≡ layout_bytes size alignment offsets.now) }
@@ -51,20 +62,14 @@ pub fn layout_is(size: u64, alignment: u64, offsets: &[u32], due: &[u8]) -> bool
     let Some(rest) = due.strip_prefix(&size.to_le_bytes()) else {
         return false;
     };
-    let Some(rest) = rest.strip_prefix(&alignment.to_le_bytes()) else {
-        return false;
-    };
-    numbers_are(offsets, rest)
+    headed(alignment, offsets, rest)
 }
 
 // Whether the bytes are those of the count of followed names and of the names of a chain.
 pub fn chain_is(followed: u64, names: &[u16], due: &[u8]) -> bool
     ensures { Whether result (due.now ≡ chain_bytes followed names.now) }
 {
-    let Some(rest) = due.strip_prefix(&followed.to_le_bytes()) else {
-        return false;
-    };
-    numbers_are(names, rest)
+    headed(followed, names, due)
 }
 
 // Whether the bytes are those of the value, eight of them.

@@ -1,9 +1,14 @@
 // A table of distinct numbers, each with its place by order of entry, in a slice from `base` on: so many heads, one for each bucket, then
-// for each member the member itself and a link. A head, and a link, is one more than the place of the last member of the bucket, or of the last
-// before this one; 0 ends the bucket. Numbers of 16 bits in b buckets: a bucket has at most 65,536 / b members, rounded up.
+// for each member the member itself and a link. A head, and a link, is one more than the place of the last member of the bucket, or of the
+// last before this one; 0 ends the bucket. Numbers of 16 bits in b buckets: a bucket has at most 65,536 / b members, rounded up.
 //
-// Heads and links are numbers and no `Option`: they stand in the caller's places of 16 bits (no heap, fixed memory). No struct holds the
-// slice, `base` and `n`, and no slice begins at `base`: callers write other places of it between two calls, and their facts are of the whole.
+// `BUCKETS` is a constant: each caller has one of its own, and none a number that is known only at run time.
+// Heads and links are numbers and no `Option`, and a member with its link no struct: they stand in the caller's places of 16 bits, behind
+// others (no heap, fixed memory); an array of structs would be a second slice, lent through all that hand these places on. No struct holds
+// the slice, `base` and `n`: chain and acceptance write other places of it between two calls. `base` stays, as chain's facts (`Indexed`)
+// are of the whole slice of edges, with the table at `base`: with a slice from `base` on, each of its calls would move them to the part and
+// back. Lookup and acceptance hand a part from its start on, renumber a slice of the table alone, all with `base` 0. No trait has
+// `place_of` and `enter` for this crate and tree: no function takes either of the two.
 #![tactic(auto)]
 
 ghost use Rattle.std.specs.Prelude.{◌+◌, ◌*◌, ◌%◌, ◌≤◌, ◌<◌, ◌≡◌, length};

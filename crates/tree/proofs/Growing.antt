@@ -1,4 +1,5 @@
 -- One number more in a tree.
+--     tree_of                     the depths of other places ask nothing
 --     tree_same, tree_none        a tree stays where its places do; no number
 --     entered_first, -new         x is the first of all, or one more
 --     place_at                    the place of x, by where the search ends
@@ -7,18 +8,19 @@ use native.Mathlib.Omega.{arith}
 use native.Mathlib.Decide.{dec_lt, ℕ_discrete}
 use mathlib.Core.Bool.{cond}
 use mathlib.Core.List.{List}
-use lib.Dec.{eqb}
+use lib.Dec.{eqb, ltb}
 use mathlib.Core.Logic.{◌⊎◌, inl, inr, by_cases}
 use mathlib.Core.Path.{◌≡◌, refl, sym, ap, subst, ◌∙◌}
 use lib.ListN.{length, length-set, get_or, set}
 use lib.Seq.{get_or-set_same, get_or-set_other}
-use borrow.Author.Tests.{eq-eqb, ne_eqb}
+use borrow.Author.Tests.{eq-eqb, ne_eqb, lt-ltb, le-ltb}
 use Rattle.std.specs.Prelude.{Option, Some, None, Result, Ok, Err}
 use Rattle.std.specs.Result.{result_ok}
 use Rattle.table.specs.Table.{PlaceIn}
-use Rattle.tree.specs.Tree.{number_at, link_at, onward, seek, SameBits, OneDeeper, Tree, Extends, Unfound, EndOf, PlaceOf, Node, Entered}
+use Rattle.tree.specs.Tree.{number_at, link_at, onward, seek, SameBits, OneDeeper, Low, Tree, Extends, Unfound, EndOf, PlaceOf, Node, Entered}
+use Rattle.tree.specs.Facts.{same_place}
 use Rattle.tree.proofs.Bits.{bit, same_bits_equal}
-use Rattle.tree.proofs.Searching.{seek_here, seek_other, few_steps, same_place}
+use Rattle.tree.proofs.Searching.{seek_here, seek_other, few_steps}
 
 -- a number that is found in t is found in u, with some steps more
 module _ {t u : List ℕ} {a n : ℕ} (tree : Tree t a n) (extends : Extends t u a n) (x e : ℕ) where
@@ -64,6 +66,39 @@ deeper_same extends deep is more k b l e (inr w) =
       bit = rw (is k l, extends.numbers w.to w.below) w.bit;
     })
 
+-- a tree without what it says of the depths of other places
+pub record Rooted (t : List ℕ) (a n : ℕ) : Type 0 where
+  pub within : a + 3 * n ≤ length t
+  pub small : (k : ℕ) → k < n → number_at t a k < 65536
+  pub depth : ℕ → ℕ
+  pub root : depth 0 ≡ 0
+  pub low : Low depth n
+  pub links : (k b : ℕ) → k < n → (get_or t (link_at a k b) 0 ≡ 0) ⊎ OneDeeper t a n depth k b
+  pub found : (k : ℕ) → k < n → seek t a (number_at t a k) n 0 (number_at t a k) ≡ suc k
+
+-- it is a tree, with the depth 0 at other places
+pub tree_of : {t : List ℕ} {a n : ℕ} → Rooted t a n → Tree t a n
+tree_of {t} {a} {n} g =
+    record {
+      within = g.within;
+      small = g.small;
+      depth = deep;
+      root = by_cases (dec_lt 0 n) (λ (c : 0 < n). deep_old 0 c ∙ g.root) (λ (c : ¬ (0 < n)). deep_other 0 (omega arith));
+      beyond = deep_other;
+      low = λ k l. rw (deep_old k l) (g.low k l);
+      links = λ k b l. deeper_same (record { numbers = λ _ _. refl; links = λ _ _ _ _. refl }) deep deep_old (omega arith) k b l refl (g.links k b l);
+      found = g.found;
+    }
+  where
+    deep : ℕ → ℕ
+    deep k = cond (ltb k n) (g.depth k) 0
+
+    deep_old : (k : ℕ) → k < n → deep k ≡ g.depth k
+    deep_old k l = rw (lt-ltb k n l)
+
+    deep_other : (k : ℕ) → n ≤ k → deep k ≡ 0
+    deep_other k l = rw (le-ltb k n l)
+
 -- a tree stays where its places do
 pub tree_same : {t : List ℕ} (u : List ℕ) {a n : ℕ} → Tree t a n → ((i : ℕ) → a ≤ i → i < a + 3 * n → get_or u i 0 ≡ get_or t i 0) → length t ≤ length u → Tree u a n
 tree_same {t} u {a} {n} tree same long =
@@ -72,6 +107,7 @@ tree_same {t} u {a} {n} tree same long =
       small = λ k l. rw (number_same k l) (tree.small k l);
       depth = tree.depth;
       root = tree.root;
+      beyond = tree.beyond;
       low = tree.low;
       links = λ k b l. deeper_same extends tree.depth (λ i c. refl) (omega arith) k b l (same (link_at a k b) (omega arith) (omega (arith, bit b))) (tree.links k b l);
       found = λ k l.
@@ -95,6 +131,7 @@ tree_none t a l =
       small = λ k c. absurd (omega arith);
       depth = λ k. 0;
       root = refl;
+      beyond = λ k c. refl;
       low = λ k c. absurd (omega arith);
       links = λ k b c. absurd (omega arith);
       found = λ k c. absurd (omega arith);
@@ -125,9 +162,12 @@ module _ {t : List ℕ} {a n x p : ℕ} (tree : Tree t a n) (m : Unfound t a n x
   depth : ℕ → ℕ
   depth k = cond (eqb k n) (suc (tree.depth m.owner)) (tree.depth k)
 
-  depth_old : (k : ℕ) → k < n → depth k ≡ tree.depth k
+  depth_other : (k : ℕ) → (k ≡ n → ⊥) → depth k ≡ tree.depth k
   unfolding depth
-  depth_old k l = rw (ne_eqb k n (λ z. omega (arith, z)))
+  depth_other k ne = rw (ne_eqb k n ne)
+
+  depth_old : (k : ℕ) → k < n → depth k ≡ tree.depth k
+  depth_old k l = depth_other k (λ z. omega (arith, z))
 
   depth_new : depth n ≡ suc (tree.depth m.owner)
   unfolding depth
@@ -190,6 +230,7 @@ module _ {t : List ℕ} {a n x p : ℕ} (tree : Tree t a n) (m : Unfound t a n x
               small = each (λ k. number_at u a k < 65536) (λ k l. rw (numbers k l) (tree.small k l)) (rw w.here fits);
               depth = depth;
               root = depth_old 0 (omega (arith, m.below)) ∙ tree.root;
+              beyond = λ k l. depth_other k (λ z. omega (arith, z)) ∙ tree.beyond k (omega arith);
               low = each (λ k. depth k ≤ 16) (λ k l. rw (depth_old k l) (tree.low k l)) (rw depth_new owner_low);
               links = links;
               found = found;
@@ -214,6 +255,7 @@ entered_first {t} {a} {n} {x} {u} z fits w room =
             small = λ k l. let q : k ≡ n = omega (arith, z) in rw (q, w.here) fits;
             depth = λ k. 0;
             root = refl;
+            beyond = λ k l. refl;
             low = λ k l. omega arith;
             links = λ k b l. let q : k ≡ n = omega (arith, z) in inl (ap (λ i. get_or u (link_at a i b) 0) q ∙ w.links b);
             found = λ k l.

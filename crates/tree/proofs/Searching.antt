@@ -1,7 +1,6 @@
 -- The search for a number by its bits.
 --     searching_next, -unfound   the loop of the search
 --     few_steps                  a search ends within 17 steps
---     same_place                 two places of one number are the same
 use Prim.Native.Nat.{ℕ, zero, suc, ◌+◌, ◌-◌, ◌/◌, ◌%◌, ◌≤◌, ◌<◌}
 use native.Mathlib.Omega.{arith}
 use native.Mathlib.Decide.{ℕ_discrete}
@@ -117,10 +116,3 @@ module _ {t : List ℕ} {a n : ℕ} (tree : Tree t a n) (x e : ℕ) where
 
   pub few_steps : 0 < n → seek t a x (17 + e) 0 x ≡ seek t a x 17 0 x
   few_steps l = enough 17 0 x l (omega arith)
-
--- two places of one number are the same
-pub same_place : {t : List ℕ} {a n : ℕ} → Tree t a n → (i j : ℕ) → i < n → j < n → number_at t a i ≡ number_at t a j → i ≡ j
-same_place {t} {a} {n} tree i j c d e =
-    let p : seek t a (number_at t a j) n 0 (number_at t a j) ≡ suc i = subst (λ y. seek t a y n 0 y ≡ suc i) e (tree.found i c) in
-    let q : suc i ≡ suc j = sym p ∙ tree.found j d in
-    omega (arith, q)

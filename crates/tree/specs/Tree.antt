@@ -43,13 +43,19 @@ pub record OneDeeper (t : List ℕ) (a n : ℕ) (depth : ℕ → ℕ) (k b : ℕ
   pub same : SameBits (depth k) (number_at t a k) (number_at t a to)
   pub bit : upper (depth k) (number_at t a to) % 2 ≡ b % 2
 
--- n numbers, each of which is found; each link leads nowhere or one deeper, and no number stands deeper than 16 links
+-- no number stands deeper than 16 links
+abbrev pub Low : (ℕ → ℕ) → ℕ → Type 0
+Low depth n = (k : ℕ) → k < n → depth k ≤ 16
+
+-- n numbers, each of which is found; each link leads nowhere or one deeper; how deep each stands, 0 for other places
 pub record Tree (t : List ℕ) (a n : ℕ) : Type 0 where
   pub within : a + 3 * n ≤ length t
   pub small : (k : ℕ) → k < n → number_at t a k < 65536
   pub depth : ℕ → ℕ
   pub root : depth 0 ≡ 0
-  pub low : (k : ℕ) → k < n → depth k ≤ 16
+  -- asks no more: the other fields alone make a tree (tree_of of proofs/Growing), and with this one in one way only
+  pub beyond : (k : ℕ) → n ≤ k → depth k ≡ 0
+  pub low : Low depth n
   pub links : (k b : ℕ) → k < n → (get_or t (link_at a k b) 0 ≡ 0) ⊎ OneDeeper t a n depth k b
   pub found : (k : ℕ) → k < n → seek t a (number_at t a k) n 0 (number_at t a k) ≡ suc k
 

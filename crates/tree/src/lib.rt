@@ -2,8 +2,10 @@
 // two links, one more than the place to which they lead, or 0. The search for a number goes by its bits, the lowest first, so that it takes
 // 17 steps at most whatever the numbers are.
 //
-// Links are numbers and no `Option`: they stand in the caller's places of 16 bits (no heap, fixed memory). No struct holds the
-// slice, `base` and `n`, and no slice begins at `base`: callers write other places of it between two calls, and their facts are of the whole.
+// Links are numbers and no `Option`, and the three values of a number no struct: they stand in the caller's places of 16 bits, behind
+// others (no heap, fixed memory); an array of structs would be a second slice, lent through all that hand these places on. No struct holds
+// the slice, `base` and `n`, and no slice begins at `base`: callers write other places of it between two calls, and their facts are of the
+// whole. No trait has `place_of` and `enter` for this crate and table: no function takes either of the two.
 #![tactic(auto)]
 
 ghost use Rattle.std.specs.Prelude.{◌+◌, ◌*◌, ◌≤◌, ◌<◌, length};

@@ -1,2 +1,3 @@
+pub mod Shared
 pub mod Validators
 pub mod Writing

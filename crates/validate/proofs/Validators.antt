@@ -1,8 +1,7 @@
 -- The validators of enums, arrays and structs, and of all definitions.
-use Rattle.std.specs.Prelude as prelude
 use Prim.Native.Nat.{ℕ, suc, ◌+◌, ◌-◌, ◌≤◌, ◌<◌}
 use native.Mathlib.Omega.{arith}
-use mathlib.Core.Bool.{Bool, true, false}
+use mathlib.Core.Bool.{true}
 use mathlib.Core.Option.{Option}
 use mathlib.Core.Path.{◌≡◌, refl, sym, ap, ap₂, subst, ◌∙◌}
 use mathlib.Core.List.{List, [], ◌++◌, map}
@@ -22,7 +21,6 @@ use Rattle.bundle.proofs.LookupLaws.{from_place, placed_at, placed_name}
 use Rattle.bundle.proofs.Trees.{ended_reads}
 use Rattle.bundle.specs.Expressions.{expr_at}
 use Rattle.sizes.specs.Scan.{paths_from, references_from, Fits}
-use Rattle.sizes.specs.Tests.{Kept}
 use Rattle.bundle.proofs.Parts.{members_none}
 use Rattle.sizes.proofs.ReferenceLaws.{expr_references, expr_bound, expr_fits}
 use Rattle.fields.specs.declared.Field.{Field}
@@ -31,88 +29,90 @@ use Rattle.fields.specs.declared.Shape.{Shape}
 use Rattle.fields.specs.declared.Shape.TheVariants as shape
 use Rattle.fields.specs.Shapes.{StructAt, EnumAt, ArrayAt, is_plain, ShapeOf, FieldAt, PlacedAt}
 use Rattle.fields.proofs.Walking.{Passing, passing_next, passing_tree}
-use Rattle.validate.specs.declared.Position.{Position}
+use Rattle.validate.specs.declared.Report.{Report}
 use Rattle.validate.specs.declared.Subject.{Subject}
 use Rattle.validate.specs.declared.References.{References}
-use Rattle.validate.specs.Validating.{Among, Wrote, Room, ReferencesAt, check_reference, found_in, violations_of, violations_at}
+use Rattle.validate.specs.declared.Site.{Site}
+use Rattle.validate.specs.declared.Site.TheVariants.{Tag, Size}
+use Rattle.validate.specs.Validating.{is_tag, Among, Wrote, Room, ReferencesAt, check_reference, found_in, violations_of, violations_at}
 use Rattle.validate.proofs.Writing.{wrote_none, Going, going_start, going_room, going_next, going_end, push_append}
 
 -- what is asked of the references of an expression that was read
-pub references_inside : {s : List ℕ} {at : ℕ} {tag : Bool} {r : References} → ReferencesAt s at tag r → (r.end ≤ length s) × Fits s (references_from s r.at r.end)
-references_inside {s} {at} {tag} {r} g =
+pub references_inside : {s : List ℕ} {at : ℕ} {w : Site} {r : References} → ReferencesAt s at w r → (r.end ≤ length s) × Fits s (references_from s r.at r.end)
+references_inside {s} {at} {w} {r} g =
     (expr_bound 23 at r.end s g.ends, subst (λ k. Fits s (references_from s k r.end)) (sym g.starts) (expr_fits 23 at r.end s g.ends))
 
 -- what is found by them, from the tree
-references_found : {s : List ℕ} {at : ℕ} {tag : Bool} {r : References} (d : Subject) → ReferencesAt s at tag r
-    → filter_map (check_reference tag (bundle_of s) d.number d.name) (collect_field_references_recursive (expr_at 23 s at)) ≡ found_in s d r
-references_found {s} {at} {tag} {r} d g =
-    ap₂ (λ t paths. filter_map (check_reference t (bundle_of s) d.number d.name) paths) (sym g.which)
+references_found : {s : List ℕ} {at : ℕ} {w : Site} {r : References} (d : Subject) → ReferencesAt s at w r
+    → filter_map (check_reference (is_tag w) (bundle_of s) d.number d.place.name) (collect_field_references_recursive (expr_at 23 s at)) ≡ found_in s d r
+references_found {s} {at} {w} {r} d g =
+    ap₂ (λ t paths. filter_map (check_reference (is_tag t) (bundle_of s) d.number d.place.name) paths) (sym g.which)
     (sym (expr_references 23 at r.end s g.ends) ∙ ap (λ k. paths_from s k r.end) (sym g.starts))
 
 -- an enum, by the references of its tag
-pub enum_violations : {s : List ℕ} (d : Subject) {r : References} → EnumAt 24 s d.at → ReferencesAt s (d.at + 12) true r → violations_of s d ≡ found_in s d r
+pub enum_violations : {s : List ℕ} (d : Subject) {r : References} → EnumAt 24 s d.place.at → ReferencesAt s (d.place.at + 12) Tag r → violations_of s d ≡ found_in s d r
 unfolding validate_enum_tag_constraints
-enum_violations {s} d g h = ap (validate_type (bundle_of s) d.number d.name) g.tree ∙ references_found d h
+enum_violations {s} d g h = ap (validate_type (bundle_of s) d.number d.place.name) g.tree ∙ references_found d h
 
 -- an array, by the references of its size
-pub size_reads : {s : List ℕ} {at jagged : ℕ} → ArrayAt 24 s at jagged → Reads (read_expr 23 s (at + 11))
+pub size_reads : {s : List ℕ} {at : ℕ} → ArrayAt 24 s at → Reads (read_expr 23 s (at + 11))
 size_reads {s} {at} g = ended_reads (read_expr 23 s (at + 11)) g.element g.size
 
-module _ {s : List ℕ} (d : Subject) {jagged : ℕ} {r : References} (g : ArrayAt 24 s d.at jagged) (h : ReferencesAt s (d.at + 11) false r) where
+module _ {s : List ℕ} (d : Subject) {r : References} (g : ArrayAt 24 s d.place.at) (h : ReferencesAt s (d.place.at + 11) Size r) where
   element_at : g.element ≡ r.end
   element_at = let e = g.size ∙ sym h.ends in cc
 
   pub element_reads : Reads (read_ty 23 s r.end)
   element_reads = subst (λ k. Reads (read_ty 23 s k)) element_at g.reads
 
-  pub array_violations : violations_of s d ≡ push (check_array_element_type_size (bundle_of s) d.number d.name jagged (type_at 23 s r.end)) (found_in s d r)
+  pub array_violations : violations_of s d ≡ push (check_array_element_type_size (bundle_of s) d.number d.place.name (get_or s (d.place.at + 10) 0) (type_at 23 s r.end)) (found_in s d r)
   unfolding validate_array_size_constraints
   array_violations =
-      ap (validate_type (bundle_of s) d.number d.name) g.tree
-      ∙ ap₂ (λ k vs. push (check_array_element_type_size (bundle_of s) d.number d.name jagged (type_at 23 s k)) vs) element_at (references_found d h)
+      ap (validate_type (bundle_of s) d.number d.place.name) g.tree
+      ∙ ap₂ (λ k vs. push (check_array_element_type_size (bundle_of s) d.number d.place.name (get_or s (d.place.at + 10) 0) (type_at 23 s k)) vs) element_at (references_found d h)
 
 -- the element's violation first
-module _ {whole : List Violation} (o v : Option Violation) (rest : List Violation) (q : whole ≡ push o rest) (k : v ≡ o) {p : Position} (r : Room p whole) where
+module _ {whole : List Violation} (o v : Option Violation) (rest : List Violation) (q : whole ≡ push o rest) (k : v ≡ o) {p : Report} (r : Room p whole) where
   front : whole ≡ push v [] ++ rest
   front = q ∙ push_append o rest ∙ ap (λ o. push o [] ++ rest) (sym k)
 
   pub front_room : Room p (push v [])
-  front_room = going_room (going_start {out = []} r) (push v []) rest front
+  front_room = going_room (going_start r) (push v []) rest front
 
-  module _ {out out' : List ℕ} {m : Position} (w : Wrote (push v []) out p out' m) where
+  module _ {m : Report} (w : Wrote (push v []) p m) where
     pub rest_room : Room m rest
     rest_room = (going_next (going_start r) (push v []) rest front w).room
 
-    pub rest_wrote : {out'' : List ℕ} {n : Position} → Wrote rest out' m out'' n → Wrote whole out p out'' n
-    rest_wrote {out''} {n} x = (going_next (going_start r) (push v []) rest front w).on out'' n x
+    pub rest_wrote : {n : Report} → Wrote rest m n → Wrote whole p n
+    rest_wrote {n} x = (going_next (going_start r) (push v []) rest front w).on n x
 
 -- the last `left` of the fields of a struct are still to be checked
-pub record Fielding (s : List ℕ) (i n count : ℕ) (whole : List Violation) (list₀ out₀ : List ℕ) (p₀ : Position) (list out : List ℕ) (next left : ℕ) (p : Position) : Type 0 where
+pub record Fielding (s : List ℕ) (i n count : ℕ) (whole : List Violation) (list₀ : List ℕ) (p₀ : Report) (list : List ℕ) (next left : ℕ) (p : Report) : Type 0 where
   pub pass : Passing 23 s count left next
-  pub going : Going whole out₀ p₀ (filter_map (check_field_layout_dependency (bundle_of s) i n) (enumerate (count - left) (list_of (members_at 23 0x50 left s next)))) out p
+  pub going : Going whole p₀ (filter_map (check_field_layout_dependency (bundle_of s) i n) (enumerate (count - left) (list_of (members_at 23 0x50 left s next)))) p
   pub list_size : length list ≡ length list₀
 
 -- the violations of the fields at a position
 abbrev pub fields_found : List ℕ → ℕ → ℕ → ℕ → ℕ → List Violation
 fields_found s i n count at = filter_map (check_field_layout_dependency (bundle_of s) i n) (enumerate 0 (list_of (members_at 23 0x50 count s at)))
 
-pub struct_violations : (s : List ℕ) (d : Subject) {count : ℕ} → StructAt 24 s d.at count → violations_of s d ≡ fields_found s d.number d.name count (d.at + 12)
+pub struct_violations : (s : List ℕ) (d : Subject) {count : ℕ} → StructAt 24 s d.place.at count → violations_of s d ≡ fields_found s d.number d.place.name count (d.place.at + 12)
 unfolding validate_struct_field_constraints
-struct_violations s d g = ap (validate_type (bundle_of s) d.number d.name) g.tree
+struct_violations s d g = ap (validate_type (bundle_of s) d.number d.place.name) g.tree
 
-pub fielding_start : (s : List ℕ) (d : Subject) {count : ℕ} → StructAt 24 s d.at count → (list out : List ℕ) (p : Position) → Room p (violations_of s d)
-    → Fielding s d.number d.name count (fields_found s d.number d.name count (d.at + 12)) list out p list out (d.at + 12) count p
-fielding_start s d {count} g list out p r = record {
+pub fielding_start : (s : List ℕ) (d : Subject) {count : ℕ} → StructAt 24 s d.place.at count → (list : List ℕ) (p : Report) → Room p (violations_of s d)
+    → Fielding s d.number d.place.name count (fields_found s d.number d.place.name count (d.place.at + 12)) list p list (d.place.at + 12) count p
+fielding_start s d {count} g list p r = record {
   pass = record { bound = omega arith; reads = g.reads };
-  going = subst (λ k. Going (fields_found s d.number d.name count (d.at + 12)) out p
-      (filter_map (check_field_layout_dependency (bundle_of s) d.number d.name) (enumerate k (list_of (members_at 23 0x50 count s (d.at + 12))))) out p) (omega arith)
+  going = subst (λ k. Going (fields_found s d.number d.place.name count (d.place.at + 12)) p
+      (filter_map (check_field_layout_dependency (bundle_of s) d.number d.place.name) (enumerate k (list_of (members_at 23 0x50 count s (d.place.at + 12))))) p) (omega arith)
       (going_start (subst (Room p) (struct_violations s d g) r));
   list_size = refl;
 }
 
-module _ {s : List ℕ} {i n count : ℕ} {whole : List Violation} {list₀ out₀ : List ℕ} {p₀ : Position} {list out : List ℕ} {next left : ℕ} {p : Position}
-    (c : Fielding s i n count whole list₀ out₀ p₀ list out next left p) where
-  pub fielding_end : left ≡ 0 → Wrote whole out₀ p₀ out p
+module _ {s : List ℕ} {i n count : ℕ} {whole : List Violation} {list₀ : List ℕ} {p₀ : Report} {list : List ℕ} {next left : ℕ} {p : Report}
+    (c : Fielding s i n count whole list₀ p₀ list next left p) where
+  pub fielding_end : left ≡ 0 → Wrote whole p₀ p
   fielding_end e =
       going_end c.going
       (ap (λ ms. filter_map (check_field_layout_dependency (bundle_of s) i n) (enumerate (count - left) (list_of ms))) (members_none 23 0x50 s left next e))
@@ -133,22 +133,21 @@ module _ {s : List ℕ} {i n count : ℕ} {whole : List Violation} {list₀ out�
     pub fielding_room : Room p (push v [])
     fielding_room = going_room c.going (push v []) rest split
 
-    pub fielding_next : {list' out' : List ℕ} {q : Position} → length list' ≡ length list → Wrote (push v []) out p out' q
-        → Fielding s i n count whole list₀ out₀ p₀ list' out' f.next (left - 1) q
+    pub fielding_next : {list' : List ℕ} {q : Report} → length list' ≡ length list → Wrote (push v []) p q
+        → Fielding s i n count whole list₀ p₀ list' f.next (left - 1) q
     unfolding rest
     fielding_next l w = record { pass = passing_next c.pass h g; going = going_next c.going (push v []) rest split w; list_size = l ∙ c.list_size }
 
 -- definition i, by its shape
 module _ (s places : List ℕ) (i : ℕ) {p : Place} (g : PlacedAt s places i p) where
-  pub placed_violations : violations_of s (record { number = i; name = p.name; at = p.at }) ≡ violations_at s places i
+  pub placed_violations : violations_of s (record { number = i; place = p }) ≡ violations_at s places i
   placed_violations = ap₂ (λ n at. validate_type (bundle_of s) i n (type_at 24 s at)) g.name g.at
 
-  pub placed_room : {m : Position} → Room m (violations_at s places i) → Room m (violations_of s (record { number = i; name = p.name; at = p.at }))
+  pub placed_room : {m : Report} → Room m (violations_at s places i) → Room m (violations_of s (record { number = i; place = p }))
   placed_room {m} r = subst (Room m) (sym placed_violations) r
 
-  pub placed_wrote : {out : List ℕ} {m : Position} {out' : List ℕ} {q : Position} → Wrote (violations_of s (record { number = i; name = p.name; at = p.at })) out m out' q
-      → Wrote (violations_at s places i) out m out' q
-  placed_wrote {out} {m} {out'} {q} w = subst (λ vs. Wrote vs out m out' q) placed_violations w
+  pub placed_wrote : {m q : Report} → Wrote (violations_of s (record { number = i; place = p })) m q → Wrote (violations_at s places i) m q
+  placed_wrote {m} {q} w = subst (λ vs. Wrote vs m q) placed_violations w
 
   plain_none : (b : _) (n : ℕ) (t : Ty) → is_plain t ≡ true → validate_type b i n t ≡ []
   plain_none b n (primitive k) e = refl
@@ -159,42 +158,39 @@ module _ (s places : List ℕ) (i : ℕ) {p : Place} (g : PlacedAt s places i p)
   plain_none b n (array a jagged size element) e = let z : ◌≡◌ {A = ℕ} 0 1 = cc in absurd (omega arith)
   plain_none b n (size_union a ms) e = refl
 
-  nothing : validate_type (bundle_of s) i p.name (type_at 24 s p.at) ≡ [] → (out : List ℕ) (m : Position) → Wrote (violations_at s places i) out m out m
-  nothing e out m = placed_wrote (subst (λ vs. Wrote vs out m out m) (sym e) (wrote_none out m))
+  nothing : validate_type (bundle_of s) i p.name (type_at 24 s p.at) ≡ [] → (m : Report) → Wrote (violations_at s places i) m m
+  nothing e m = placed_wrote (subst (λ vs. Wrote vs m m) (sym e) (wrote_none m))
 
-  pub placed_plain : {r : Shape} → r ≡ shape.Plain → ShapeOf 24 s p.at r → (out : List ℕ) (m : Position) → Wrote (violations_at s places i) out m out m
-  placed_plain e h out m = nothing (plain_none (bundle_of s) p.name (type_at 24 s p.at) (subst (ShapeOf 24 s p.at) e h)) out m
+  pub placed_plain : {r : Shape} → r ≡ shape.Plain → ShapeOf 24 s p.at r → (m : Report) → Wrote (violations_at s places i) m m
+  placed_plain e h m = nothing (plain_none (bundle_of s) p.name (type_at 24 s p.at) (subst (ShapeOf 24 s p.at) e h)) m
 
-  pub placed_ref : {x : ℕ} {r : Shape} → r ≡ shape.TypeRef x → ShapeOf 24 s p.at r → (out : List ℕ) (m : Position) → Wrote (violations_at s places i) out m out m
-  placed_ref {x} e h out m =
+  pub placed_ref : {x : ℕ} {r : Shape} → r ≡ shape.TypeRef x → ShapeOf 24 s p.at r → (m : Report) → Wrote (violations_at s places i) m m
+  placed_ref {x} e h m =
       let q : type_at 24 s p.at ≡ type_ref x = subst (ShapeOf 24 s p.at) e h in
-      nothing (ap (validate_type (bundle_of s) i p.name) q) out m
+      nothing (ap (validate_type (bundle_of s) i p.name) q) m
 
 -- what is known of a shape that a `match` has found
 pub shape_enum : (s : List ℕ) (at : ℕ) {r : Shape} → r ≡ shape.Enum → ShapeOf 24 s at r → EnumAt 24 s at
 shape_enum s at e h = subst (ShapeOf 24 s at) e h
 
-pub shape_array : (s : List ℕ) (at : ℕ) {k : ℕ} {r : Shape} → r ≡ shape.Array k → ShapeOf 24 s at r → ArrayAt 24 s at k
+pub shape_array : (s : List ℕ) (at : ℕ) {r : Shape} → r ≡ shape.Array → ShapeOf 24 s at r → ArrayAt 24 s at
 shape_array s at e h = subst (ShapeOf 24 s at) e h
 
 -- the definitions from i on are still to be checked
 abbrev from : List ℕ → ℕ → List Violation
 from s i = flat_map (λ d. validate_type (bundle_of s) d.0 d.1.name d.1.type) (enumerate i (drop i (bundle_of s).definitions))
 
-pub record Defining (s : List ℕ) (list₀ out₀ : List ℕ) (p₀ : Position) (kept nested : List (prelude.Option Bool)) (list out : List ℕ) (i : ℕ) (p : Position) : Type 0 where
-  pub going : Going (violations (bundle_of s)) out₀ p₀ (from s i) out p
+pub record Defining (s : List ℕ) (list₀ : List ℕ) (p₀ : Report) (list : List ℕ) (i : ℕ) (p : Report) : Type 0 where
+  pub going : Going (violations (bundle_of s)) p₀ (from s i) p
   pub list_size : length list ≡ length list₀
-  pub keeps : Kept s false kept
-  pub nests : Kept s true nested
 
-pub defining_start : (s list out : List ℕ) (p : Position) {kept nested : List (prelude.Option Bool)} → Room p (violations (bundle_of s)) → Kept s false kept → Kept s true nested
-    → Defining s list out p kept nested list out 0 p
+pub defining_start : (s list : List ℕ) (p : Report) → Room p (violations (bundle_of s)) → Defining s list p list 0 p
 unfolding violations
-defining_start s list out p r k n = record { going = going_start r; list_size = refl; keeps = k; nests = n }
+defining_start s list p r = record { going = going_start r; list_size = refl }
 
-module _ {s places : List ℕ} {count : ℕ} (t : Table s count places) {list₀ out₀ : List ℕ} {p₀ : Position} {kept nested : List (prelude.Option Bool)} {list out : List ℕ} {i : ℕ} {p : Position}
-    (c : Defining s list₀ out₀ p₀ kept nested list out i p) where
-  pub defining_end : count ≤ i → Wrote (violations (bundle_of s)) out₀ p₀ out p
+module _ {s places : List ℕ} {count : ℕ} (t : Table s count places) {list₀ : List ℕ} {p₀ : Report} {list : List ℕ} {i : ℕ} {p : Report}
+    (c : Defining s list₀ p₀ list i p) where
+  pub defining_end : count ≤ i → Wrote (violations (bundle_of s)) p₀ p
   defining_end h =
       going_end c.going
       (ap (λ ds. flat_map (λ d. validate_type (bundle_of s) d.0 d.1.name d.1.type) (enumerate i ds)) (drop_of_length-le (bundle_of s).definitions {i = i} (omega (arith, t.count))))
@@ -210,18 +206,15 @@ module _ {s places : List ℕ} {count : ℕ} (t : Table s count places) {list₀
     pub defining_room : Room p (violations_at s places i)
     defining_room = going_room c.going (violations_at s places i) (from s (i + 1)) first_of
 
-    pub defining_next : {kept' nested' : List (prelude.Option Bool)} {list' out' : List ℕ} {q : Position} → length list' ≡ length list → Wrote (violations_at s places i) out p out' q → Kept s false kept' → Kept s true nested'
-        → Defining s list₀ out₀ p₀ kept' nested' list' out' (i + 1) q
-    defining_next l w k n = record {
+    pub defining_next : {list' : List ℕ} {q : Report} → length list' ≡ length list → Wrote (violations_at s places i) p q → Defining s list₀ p₀ list' (i + 1) q
+    defining_next l w = record {
       going = going_next c.going (violations_at s places i) (from s (i + 1)) first_of w;
       list_size = l ∙ c.list_size;
-      keeps = k;
-      nests = n;
     }
 
 -- definition i is one of the bundle's
 pub placed_among : {s : List ℕ} {n : ℕ} {places : List ℕ} → Table s n places → {i : ℕ} → i < n → {p : Place} → PlacedAt s places i p
-    → Among s (record { number = i; name = p.name; at = p.at })
+    → Among s (record { number = i; place = p })
 placed_among {s} t {i} l {p} g =
     let names = map (λ d. d.name) (bundle_of s).definitions in
     let long = length-map (bundle_of s).definitions (λ d. d.name) in

@@ -25,7 +25,7 @@ use Rattle.sizes.specs.Scan.{names_in, names_at, path_at, references_from, paths
 use Rattle.sizes.proofs.PathLaws.{path_names}
 use Rattle.violation.specs.declared.Path.{Path}
 use Rattle.violation.specs.declared.Record.{Record}
-use Rattle.violation.specs.Records.{Puts, farthest, padded}
+use Rattle.violation.specs.Records.{Puts, padded}
 use Rattle.violation.proofs.Putting.{puts_both, puts_alike, record_size, record_alike, puts_size}
 use Rattle.search.specs.Work.{IfWanted}
 use Rattle.std.specs.Prelude as prelude
@@ -35,7 +35,7 @@ use Rattle.violation.specs.declared.Kind.TheVariants as kinds
 use Rattle.violation.specs.Kinds.{type_number}
 use Rattle.checks.specs.Checks.{violation_of, FindingFits, Fitting, Checked, ReferenceIs}
 use Rattle.bundle.specs.Definitions.{bundle_of}
-use Rattle.validate.specs.declared.Position.{Position}
+use Rattle.validate.specs.declared.Report.{Report}
 use Rattle.validate.specs.Validating.{Recorded, record_with, record_bytes, Wrote, Room, check_reference}
 
 -- a reference has at most four names
@@ -116,31 +116,32 @@ module _ (s : List ℕ) {c : Finding} {r : Record} where
   recorded_nested e q = rw (e, q) (record { names = []; few = omega arith; path = refl; is = λ i n list. refl; room = λ m f. (omega arith, omega arith) })
 
 -- nothing, and one list of violations behind another
-pub wrote_none : (out : List ℕ) (p : Position) → Wrote [] out p out p
-wrote_none out p = record { puts = record { written = refl; behind = omega arith }; counts = omega arith; short = omega arith }
+pub wrote_none : (p : Report) → Wrote [] p p
+wrote_none p = record { same_bytes = refl; puts = record { written = refl; behind = omega arith }; counts = omega arith; short = omega arith }
 
 record_append : (vs ws : List Violation) → record_bytes (vs ++ ws) ≡ record_bytes vs ++ record_bytes ws
 record_append vs ws = ap bytes (flat_map_append violation_items vs ws) ∙ bytes_append (flat_map violation_items vs) (flat_map violation_items ws)
 
-wrote_both : {vs ws : List Violation} {out out' out'' : List ℕ} {p q r : Position} → Wrote vs out p out' q → Wrote ws out' q out'' r → Wrote (vs ++ ws) out p out'' r
-wrote_both {vs} {ws} {out} {out'} {out''} {p} {q} {r} a b = record {
-  puts = subst (λ xs. Puts xs out p.at out'' r.at) (sym (record_append vs ws)) (puts_both a.puts b.puts);
+wrote_both : {vs ws : List Violation} {p q r : Report} → Wrote vs p q → Wrote ws q r → Wrote (vs ++ ws) p r
+wrote_both {vs} {ws} {p} {q} {r} a b = record {
+  same_bytes = b.same_bytes ∙ a.same_bytes;
+  puts = subst (λ xs. Puts xs p.out.now p.at r.out.now r.at) (sym (record_append vs ws)) (puts_both a.puts b.puts);
   counts = omega (arith, a.counts, b.counts, length-append vs ws);
   short = omega (arith, a.short, b.short, length-append vs ws, ap length (record_append vs ws), length-append (record_bytes vs) (record_bytes ws));
 }
 
 -- of the violations `whole`, those `left` are still to be written
-pub record Going (whole : List Violation) (out₀ : List ℕ) (p₀ : Position) (left : List Violation) (out : List ℕ) (p : Position) : Type 0 where
+pub record Going (whole : List Violation) (p₀ : Report) (left : List Violation) (p : Report) : Type 0 where
   pub room : Room p left
-  pub size : length out ≡ length out₀
-  pub on : (out' : List ℕ) (q : Position) → Wrote left out p out' q → Wrote whole out₀ p₀ out' q
+  pub size : length p.out.now ≡ length p₀.out.now
+  pub on : (q : Report) → Wrote left p q → Wrote whole p₀ q
 
-pub going_start : {whole : List Violation} {out : List ℕ} {p : Position} → Room p whole → Going whole out p whole out p
-going_start r = record { room = r; size = refl; on = λ out' q w. w }
+pub going_start : {whole : List Violation} {p : Report} → Room p whole → Going whole p whole p
+going_start r = record { room = r; size = refl; on = λ q w. w }
 
-module _ {whole : List Violation} {out₀ : List ℕ} {p₀ : Position} {left : List Violation} {out : List ℕ} {p : Position} (g : Going whole out₀ p₀ left out p) where
-  pub going_end : left ≡ [] → Wrote whole out₀ p₀ out p
-  going_end e = g.on out p (subst (λ vs. Wrote vs out p out p) (sym e) (wrote_none out p))
+module _ {whole left : List Violation} {p₀ p : Report} (g : Going whole p₀ left p) where
+  pub going_end : left ≡ [] → Wrote whole p₀ p
+  going_end e = g.on p (subst (λ vs. Wrote vs p p) (sym e) (wrote_none p))
 
   pub going_room : (vs rest : List Violation) → left ≡ vs ++ rest → Room p vs
   going_room vs rest e = record {
@@ -148,35 +149,35 @@ module _ {whole : List Violation} {out₀ : List ℕ} {p₀ : Position} {left : 
     few = omega (arith, g.room.few, ap length e ∙ length-append vs rest);
   }
 
-  pub going_next : (vs rest : List Violation) {out' : List ℕ} {q : Position} → left ≡ vs ++ rest → Wrote vs out p out' q → Going whole out₀ p₀ rest out' q
-  going_next vs rest {out'} {q} e w = record {
+  pub going_next : (vs rest : List Violation) {q : Report} → left ≡ vs ++ rest → Wrote vs p q → Going whole p₀ rest q
+  going_next vs rest {q} e w = record {
     room = record {
       far = omega (arith, g.room.far, w.puts.behind, w.counts, w.short);
       few = omega (arith, g.room.few, w.counts, ap length e ∙ length-append vs rest);
     };
     size = puts_size w.puts ∙ g.size;
-    on = λ out'' r k. g.on out'' r (subst (λ vs. Wrote vs out p out'' r) (sym e) (wrote_both w k));
+    on = λ r k. g.on r (subst (λ vs. Wrote vs p r) (sym e) (wrote_both w k));
   }
 
 -- a check that found nothing writes nothing
-pub put_fine : (s : List ℕ) (i n : ℕ) (list : List ℕ) (c : prelude.Option Finding) → ((f : Finding) → c ≡ prelude.Some f → ⊥) → (out : List ℕ) (p : Position)
-    → Wrote (push (violation_of s i n list c) []) out p out p
-put_fine s i n list prelude.None none-found out p = wrote_none out p
-put_fine s i n list (prelude.Some f) none-found out p = absurd (none-found f refl)
+pub put_fine : (s : List ℕ) (i n : ℕ) (list : List ℕ) (c : prelude.Option Finding) → ((f : Finding) → c ≡ prelude.Some f → ⊥) → (p : Report)
+    → Wrote (push (violation_of s i n list c) []) p p
+put_fine s i n list prelude.None none-found p = wrote_none p
+put_fine s i n list (prelude.Some f) none-found p = absurd (none-found f refl)
 
 -- and so where that is told by a test
-pub put_nothing : (s : List ℕ) (i n : ℕ) (list : List ℕ) (c : prelude.Option Finding) → prelude.is_some c ≡ false → {out out' : List ℕ} {p q : Position} → out' ≡ out → q ≡ p
-    → Wrote (push (violation_of s i n list c) []) out p out' q
-put_nothing s i n list prelude.None e {out} {out'} {p} {q} a b = rw (a, b) (wrote_none out p)
-put_nothing s i n list (prelude.Some f) e a b = let z : ◌≡◌ {A = ℕ} 0 1 = cc in absurd (omega arith)
+pub put_nothing : (s : List ℕ) (i n : ℕ) (list : List ℕ) (c : prelude.Option Finding) → prelude.is_some c ≡ false → {p q : Report} → q ≡ p
+    → Wrote (push (violation_of s i n list c) []) p q
+put_nothing s i n list prelude.None e {p} {q} a = rw a (wrote_none p)
+put_nothing s i n list (prelude.Some f) e a = let z : ◌≡◌ {A = ℕ} 0 1 = cc in absurd (omega arith)
 
 -- what was found fits, where that of the check does
 pub fits_found : (s : List ℕ) (room : ℕ) {c : prelude.Option Finding} {f : Finding} → c ≡ prelude.Some f → Fitting s room c → FindingFits s room f
 fits_found s room e g = subst (Fitting s room) e g
 
--- what is written, where the places and the position are told by equations
-pub wrote_same : {vs : List Violation} {out out' out'' : List ℕ} {p q r : Position} → Wrote vs out p out' q → out'' ≡ out' → r ≡ q → Wrote vs out p out'' r
-wrote_same w a b = rw (a, b) w
+-- what is written, where the report is told by an equation
+pub wrote_same : {vs : List Violation} {p q r : Report} → Wrote vs p q → r ≡ q → Wrote vs p r
+wrote_same w a = rw a w
 
 -- what one check finds, in front of the rest
 pub push_append : (o : Option Violation) (vs : List Violation) → push o vs ≡ push o [] ++ vs
@@ -194,14 +195,12 @@ module _ {s : List ℕ} {c : Finding} {r : Record} {k : ℕ} (g : Recorded s c r
   size : length (bytes (violation_items found)) ≡ 16 + 3 * k
   size = record_size (type_number r.kind) i n g.names (take k list) g.few ∙ ap (λ m. 16 + 3 * m) (length-take-le k list (g.room (length list) f).1)
 
-  pub put_room : {p : Position} → Room p (push (violation_of s i n list (prelude.Some c)) []) → p.at + 16 + 3 * k ≤ farthest
-  put_room w = omega (arith, w.far, w.few, (g.room (length list) f).0)
-
-  pub put_some : {out : List ℕ} {p : Position} {out' : List ℕ} {m : ℕ} → Puts (bytes (violation_items found)) out p.at out' m
-      → Wrote (push (violation_of s i n list (prelude.Some c)) []) out p out' (record { at = m; count = p.count + 1 })
-  put_some {out} {p} {out'} {m} w = record {
-    puts = subst (λ xs. Puts xs out p.at out' m) (sym one) w;
-    counts = refl;
+  pub put_some : {p q : Report} → q.out.ghost_name ≡ p.out.ghost_name → q.count ≡ p.count + 1 → Puts (bytes (violation_items found)) p.out.now p.at q.out.now q.at
+      → Wrote (push (violation_of s i n list (prelude.Some c)) []) p q
+  put_some {p} {q} same more w = record {
+    same_bytes = same;
+    puts = subst (λ xs. Puts xs p.out.now p.at q.out.now q.at) (sym one) w;
+    counts = more;
     short = omega (arith, ap length one, size, (g.room (length list) f).0);
   }
 
@@ -210,18 +209,18 @@ pub falls : {a b e : ℕ} → a < e → a < b → e - b < e - a
 falls l m = omega arith
 
 -- the references from `next` to `end` are still to be checked
-pub record Referencing (s : List ℕ) (f : List ℕ → Option Violation) (at end : ℕ) (list₀ out₀ : List ℕ) (p₀ : Position) (list out : List ℕ) (next : ℕ) (p : Position) : Type 0 where
+pub record Referencing (s : List ℕ) (f : List ℕ → Option Violation) (at end : ℕ) (list₀ : List ℕ) (p₀ : Report) (list : List ℕ) (next : ℕ) (p : Report) : Type 0 where
   pub fits : Fits s (references_from s next end)
-  pub going : Going (filter_map f (paths_from s at end)) out₀ p₀ (filter_map f (paths_from s next end)) out p
+  pub going : Going (filter_map f (paths_from s at end)) p₀ (filter_map f (paths_from s next end)) p
   pub list_size : length list ≡ length list₀
 
-pub referencing_start : (s : List ℕ) (f : List ℕ → Option Violation) (at end : ℕ) (list out : List ℕ) (p : Position) → Fits s (references_from s at end) → Room p (filter_map f (paths_from s at end))
-    → Referencing s f at end list out p list out at p
-referencing_start s f at end list out p h r = record { fits = h; going = going_start r; list_size = refl }
+pub referencing_start : (s : List ℕ) (f : List ℕ → Option Violation) (at end : ℕ) (list : List ℕ) (p : Report) → Fits s (references_from s at end) → Room p (filter_map f (paths_from s at end))
+    → Referencing s f at end list p list at p
+referencing_start s f at end list p h r = record { fits = h; going = going_start r; list_size = refl }
 
-module _ {s : List ℕ} {f : List ℕ → Option Violation} {at end : ℕ} {list₀ out₀ : List ℕ} {p₀ : Position} {list out : List ℕ} {next : ℕ} {p : Position}
-    (c : Referencing s f at end list₀ out₀ p₀ list out next p) where
-  pub referencing_end : references_from s next end ≡ [] → Wrote (filter_map f (paths_from s at end)) out₀ p₀ out p
+module _ {s : List ℕ} {f : List ℕ → Option Violation} {at end : ℕ} {list₀ : List ℕ} {p₀ : Report} {list : List ℕ} {next : ℕ} {p : Report}
+    (c : Referencing s f at end list₀ p₀ list next p) where
+  pub referencing_end : references_from s next end ≡ [] → Wrote (filter_map f (paths_from s at end)) p₀ p
   referencing_end e = going_end c.going (ap (λ ps. filter_map f (map (path_at s) ps)) e)
 
   module _ {x after : ℕ} (g : ReferenceIs s next end x after) (v : Option Violation) (e : v ≡ f (path_at s x)) where
@@ -234,7 +233,7 @@ module _ {s : List ℕ} {f : List ℕ → Option Violation} {at end : ℕ} {list
     pub referencing_room : Room p (push v [])
     referencing_room = going_room c.going (push v []) (filter_map f (paths_from s after end)) split
 
-    pub referencing_next : {list' out' : List ℕ} {q : Position} → length list' ≡ length list → Wrote (push v []) out p out' q → Referencing s f at end list₀ out₀ p₀ list' out' after q
+    pub referencing_next : {list' : List ℕ} {q : Report} → length list' ≡ length list → Wrote (push v []) p q → Referencing s f at end list₀ p₀ list' after q
     referencing_next l w = record {
       fits = g.fits;
       going = going_next c.going (push v []) (filter_map f (paths_from s after end)) split w;
@@ -282,17 +281,18 @@ module _ {s : List ℕ} {n : ℕ} {wanted : Bool} {list : List ℕ} {c : prelude
         × (length (push (violation_of s i n w.meant c) []) ≡ length (push (violation_of s i n list c) []))
     same = all_alike s i n w.meant list w.size c
 
-    pub meant_room : {p : Position} → Room p (push (violation_of s i n w.meant c) []) → Room p (push (violation_of s i n list c) [])
+    pub meant_room : {p : Report} → Room p (push (violation_of s i n w.meant c) []) → Room p (push (violation_of s i n list c) [])
     meant_room r = record { far = r.far; few = omega (arith, r.few, same.1) }
 
-    pub meant_wrote : {out out' : List ℕ} {p q : Position} → (p.at < length out → wanted ≡ true) → Wrote (push (violation_of s i n list c) []) out p out' q
-        → Wrote (push (violation_of s i n w.meant c) []) out p out' q
-    meant_wrote {out} {out'} {p} {q} e r = go wanted refl
+    pub meant_wrote : {p q : Report} → (p.at < length p.out.now → wanted ≡ true) → Wrote (push (violation_of s i n list c) []) p q
+        → Wrote (push (violation_of s i n w.meant c) []) p q
+    meant_wrote {p} {q} e r = go wanted refl
       where
-        go : (t : Bool) → wanted ≡ t → Wrote (push (violation_of s i n w.meant c) []) out p out' q
-        go true z = subst (λ l. Wrote (push (violation_of s i n l c) []) out p out' q) (sym (w.same z)) r
+        go : (t : Bool) → wanted ≡ t → Wrote (push (violation_of s i n w.meant c) []) p q
+        go true z = subst (λ l. Wrote (push (violation_of s i n l c) []) p q) (sym (w.same z)) r
         go false z = record {
-          puts = puts_alike (by_cases (dec_lt p.at (length out)) (λ (l : p.at < length out). absurd (false≢true (sym z ∙ e l))) (λ (l : ¬ (p.at < length out)). omega arith)) (sym same.0) r.puts;
+          same_bytes = r.same_bytes;
+          puts = puts_alike (by_cases (dec_lt p.at (length p.out.now)) (λ (l : p.at < length p.out.now). absurd (false≢true (sym z ∙ e l))) (λ (l : ¬ (p.at < length p.out.now)). omega arith)) (sym same.0) r.puts;
           counts = omega (arith, r.counts, same.1);
           short = omega (arith, r.short, same.0, same.1);
         }

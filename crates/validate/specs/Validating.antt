@@ -21,9 +21,11 @@ use Rattle.meaning.specs.ReadExpr.{read_expr}
 use Rattle.bundle.specs.View.{step_of}
 use Rattle.bundle.specs.Definitions.{bundle_of, type_at}
 use Rattle.sizes.specs.Scan.{paths_from}
-use Rattle.validate.specs.declared.Position.{Position}
+use Rattle.validate.specs.declared.Report.{Report}
 use Rattle.validate.specs.declared.Subject.{Subject}
 use Rattle.validate.specs.declared.References.{References}
+use Rattle.validate.specs.declared.Site.{Site}
+use Rattle.validate.specs.declared.Site.TheVariants.{Tag, Size}
 
 -- r is the record of what was found, with a chain of k names
 pub record Recorded (s : List ℕ) (f : Finding) (r : Record) (k : ℕ) : Type 0 where
@@ -49,25 +51,31 @@ record_bytes vs = bytes (flat_map violation_items vs)
 abbrev record_limit : ℕ
 record_limit = 3091
 
--- the violations vs are written from position p on, and q is the position behind them
-pub record Wrote (vs : List Violation) (out : List ℕ) (p : Position) (out' : List ℕ) (q : Position) : Type 0 where
-  pub puts : Puts (record_bytes vs) out p.at out' q.at
+-- the violations vs are written at the end of the report p, which is then q
+pub record Wrote (vs : List Violation) (p q : Report) : Type 0 where
+  pub same_bytes : q.out.ghost_name ≡ p.out.ghost_name
+  pub puts : Puts (record_bytes vs) p.out.now p.at q.out.now q.at
   pub counts : q.count ≡ p.count + length vs
   pub short : length (record_bytes vs) ≤ record_limit * length vs
 
--- p is no farther than its count allows, and vs can be counted from there on
-pub record Room (p : Position) (vs : List Violation) : Type 0 where
+-- p is no longer than its count allows, and vs can be counted behind it
+pub record Room (p : Report) (vs : List Violation) : Type 0 where
   pub far : p.at ≤ 3 + record_limit * p.count
   pub few : p.count + length vs ≤ 65535
 
 -- the number is one that a definition can have, and the name is defined
 pub record Among (s : List ℕ) (subject : Subject) : Type 0 where
   pub number : subject.number < definition_limit
-  pub defined : Defined s subject.name
+  pub defined : Defined s subject.place.name
+
+-- whether it is an enum's tag
+abbrev pub is_tag : Site → Bool
+is_tag Tag = true
+is_tag Size = false
 
 -- r spans the expression that was read at a position
-pub record ReferencesAt (s : List ℕ) (at : ℕ) (tag : Bool) (r : References) : Type 0 where
-  pub which : r.tag ≡ tag
+pub record ReferencesAt (s : List ℕ) (at : ℕ) (site : Site) (r : References) : Type 0 where
+  pub which : r.site ≡ site
   pub starts : r.at ≡ at
   pub ends : Ok r.end ≡ step_of (read_expr 23 s at)
 
@@ -78,11 +86,11 @@ check_reference false = check_array_size_layout_cycle
 
 -- what is found of a definition by its references
 abbrev pub found_in : List ℕ → Subject → References → List Violation
-found_in s d r = filter_map (check_reference r.tag (bundle_of s) d.number d.name) (paths_from s r.at r.end)
+found_in s d r = filter_map (check_reference (is_tag r.site) (bundle_of s) d.number d.place.name) (paths_from s r.at r.end)
 
 -- the violations of a definition
 abbrev pub violations_of : List ℕ → Subject → List Violation
-violations_of s d = validate_type (bundle_of s) d.number d.name (type_at 24 s d.at)
+violations_of s d = validate_type (bundle_of s) d.number d.place.name (type_at 24 s d.place.at)
 
 -- those of definition i
 abbrev pub violations_at : List ℕ → List ℕ → ℕ → List Violation

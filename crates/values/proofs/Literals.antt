@@ -2,8 +2,6 @@
 use Prim.Native.Nat.{ℕ, zero, suc, ◌-◌, ◌*◌, ◌≤◌, ◌<◌}
 use native.Mathlib.Omega.{arith}
 use mathlib.Core.Bool.{Bool, true, false}
-use mathlib.Core.List.{[], ◌∷◌}
-use types.Run.{OneOf}
 use mathlib.Core.Path.{◌≡◌, refl, ap}
 use lib.Dec.{ltb, ltb→lt}
 use lib.IntN.{ℤ, pos, negsuc, nat_abs, ◌+ℤ◌, ◌-ℤ◌}
@@ -12,10 +10,9 @@ use mir.Syntax.{w64}
 use mir.Val.{SFits, to_z, of_z}
 use mir.ValLaws.{to_z-of_z}
 use borrow.Author.Tests.{ltb-true, ltb-false, le-leb, lt-leb, lt-ltb, le-ltb}
-use Rattle.fixed_meaning.specs.Value.{ranged, signed_limit, complement, literal_value}
-use Rattle.refusal.specs.declared.Refusal.TheVariants.{NotCovered}
-use Rattle.std.specs.Prelude.{Err}
-use Rattle.values.specs.Meant.{value_meant}
+use Rattle.fixed_meaning.specs.Value.{unvalued, ranged, signed_limit, complement, literal_value}
+use Rattle.values.specs.declared.Literal.{Literal}
+use Rattle.values.specs.Meant.{literal_kind}
 
 -- two's complement, by the distance of its least number, which is negative
 from_distance : (z : ℤ) (n : ℕ) → z <ℤ pos 0 → nat_abs z ≤ n → z +ℤ pos (n - nat_abs z) ≡ complement (nat_abs z) n
@@ -41,15 +38,14 @@ module _ (z : ℤ) (f : SFits w64 z) (limit n : ℕ) (e : limit ≡ nat_abs (to_
   from_limit l h = rw (e, to_z-of_z w64 z f) (from_distance z n l (rw (e, to_z-of_z w64 z f) at h))
 
 -- by the kind
-module _ (k n : ℕ) where
-  pub unsigned : k ≤ 4 → ranged (pos n) ≡ literal_value k n
-  unfolding literal_value
-  unsigned h = rw (le-leb k 4 h)
+pub unsigned : (k n : ℕ) → k ≤ 4 → ranged (pos n) ≡ literal_value k n
+unfolding literal_value
+unsigned k n h = rw (le-leb k 4 h)
 
-  pub signed : (j limit : ℕ) → OneOf (j ∷ []) k → signed_limit j ≡ limit → 4 < j → j ≤ 8 → ranged (complement limit n) ≡ literal_value k n
-  unfolding literal_value
-  signed j limit e d l h = rw (e, lt-leb j 4 l, le-leb j 8 h, d)
+pub signed : {l : Literal} (m : Literal) (n limit : ℕ) → l ≡ m → signed_limit (literal_kind m) ≡ limit → 4 < literal_kind m → literal_kind m ≤ 8 → ranged (complement limit n) ≡ literal_value (literal_kind l) n
+unfolding literal_value
+signed m n limit e d l h = rw (e, lt-leb (literal_kind m) 4 l, le-leb (literal_kind m) 8 h, d)
 
-  pub no_literal : 8 < k → value_meant (Err NotCovered) ≡ literal_value k n
-  unfolding literal_value value_meant
-  no_literal h = rw (lt-leb k 4 (omega arith), lt-leb k 8 h)
+pub no_literal : (k n : ℕ) → 8 < k → unvalued 15 ≡ literal_value k n
+unfolding literal_value
+no_literal k n h = rw (lt-leb k 4 (omega arith), lt-leb k 8 h)

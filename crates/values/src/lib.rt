@@ -3,8 +3,8 @@
 
 ghost use Rattle.std.specs.Prelude.{◌≡◌, ◌<ℤ◌, pos, nat_abs, ◌+ℤ◌, ◌-ℤ◌, ◌*ℤ◌};
 ghost use Rattle.std.specs.Int.Signed.{quot_z, rem_z};
-ghost use Rattle.fixed_meaning.specs.Value.{valued, ranged, complement, literal_value, divided, operations, operation_of, operated};
-ghost use Rattle.values.specs.Meant.{value_meant, covers};
+ghost use Rattle.fixed_meaning.specs.Value.{valued, ranged, complement, literal_value, divided, operated};
+ghost use Rattle.values.specs.Meant.{value_meant, literal_kind, operation_kind, IsLiteralOf, IsOperationOf};
 
 use refusal::Refusal;
 
@@ -29,25 +29,41 @@ fn complement_of(least: i64, n: u64) -> Result<i64, Refusal>
         .ok_or(Refusal::OutOfRange)
 }
 
-// The value of a literal.
-pub fn literal_value(kind: u8, n: u64) -> Result<i64, Refusal>
-    ensures { value_meant result ≡ literal_value kind n }
+// How the bits of a literal are read.
+#[derive(Clone, Copy)]
+pub enum Literal {
+    Unsigned,
+    Signed64,
+    Signed32,
+    Signed16,
+    Signed8,
+}
+
+// The literal of a kind, where it is one.
+pub fn literal_of(kind: u8) -> Option<Literal>
+    ensures { IsLiteralOf kind result }
 {
     match kind {
-        0..=4 => plus(n),
-        5 => complement_of(i64::MIN, n),
-        6 => complement_of(i64::from(i32::MIN), n),
-        7 => complement_of(i64::from(i16::MIN), n),
-        8 => complement_of(i64::from(i8::MIN), n),
-        _ => Err(Refusal::NotCovered),
+        0..=4 => Some(Literal::Unsigned),
+        5 => Some(Literal::Signed64),
+        6 => Some(Literal::Signed32),
+        7 => Some(Literal::Signed16),
+        8 => Some(Literal::Signed8),
+        _ => None,
     }
 }
 
-// How far n is from 0.
-pub fn magnitude(n: i64) -> u64
-    ensures { result ≡ nat_abs n }
+// The value of a literal.
+pub fn literal_value(literal: Literal, n: u64) -> Result<i64, Refusal>
+    ensures { value_meant result ≡ literal_value (literal_kind literal) n }
 {
-    n.unsigned_abs()
+    match literal {
+        Literal::Unsigned => plus(n),
+        Literal::Signed64 => complement_of(i64::MIN, n),
+        Literal::Signed32 => complement_of(i64::from(i32::MIN), n),
+        Literal::Signed16 => complement_of(i64::from(i16::MIN), n),
+        Literal::Signed8 => complement_of(i64::from(i8::MIN), n),
+    }
 }
 
 fn divide(l: i64, r: i64) -> Result<i64, Refusal>
@@ -69,29 +85,57 @@ fn remainder(l: i64, r: i64) -> Result<i64, Refusal>
     Ok(l.wrapping_rem(r))
 }
 
-// Whether the kind is one of those that are covered.
-pub fn covered(kind: u8) -> bool
-    ensures { result ≡ covers (operation_of operations kind) }
-{
-    matches!(kind, 0x10..=0x14 | 0x1B..=0x20)
+// The operations that are covered.
+#[derive(Clone, Copy)]
+pub enum Operation {
+    Add,
+    Subtract,
+    Multiply,
+    Divide,
+    Remainder,
+    Equal,
+    Unequal,
+    Less,
+    Greater,
+    AtMost,
+    AtLeast,
 }
 
-// The value of a binary expression of this kind, by the values of its sides.
-pub fn operate(kind: u8, l: i64, r: i64) -> Result<i64, Refusal>
-    ensures { value_meant result ≡ operated kind (valued l) (valued r) }
+// The operation of a kind, where it is covered.
+pub fn operation_of(kind: u8) -> Option<Operation>
+    ensures { IsOperationOf kind result }
 {
     match kind {
-        0x10 => l.checked_add(r).ok_or(Refusal::OutOfRange),
-        0x11 => l.checked_sub(r).ok_or(Refusal::OutOfRange),
-        0x12 => l.checked_mul(r).ok_or(Refusal::OutOfRange),
-        0x13 => divide(l, r),
-        0x14 => remainder(l, r),
-        0x1B => Ok(i64::from(l == r)),
-        0x1C => Ok(i64::from(l != r)),
-        0x1D => Ok(i64::from(l < r)),
-        0x1E => Ok(i64::from(l > r)),
-        0x1F => Ok(i64::from(l <= r)),
-        0x20 => Ok(i64::from(l >= r)),
-        _ => Err(Refusal::NotCovered),
+        0x10 => Some(Operation::Add),
+        0x11 => Some(Operation::Subtract),
+        0x12 => Some(Operation::Multiply),
+        0x13 => Some(Operation::Divide),
+        0x14 => Some(Operation::Remainder),
+        0x1B => Some(Operation::Equal),
+        0x1C => Some(Operation::Unequal),
+        0x1D => Some(Operation::Less),
+        0x1E => Some(Operation::Greater),
+        0x1F => Some(Operation::AtMost),
+        0x20 => Some(Operation::AtLeast),
+        _ => None,
+    }
+}
+
+// The value of a binary expression, by the values of its sides.
+pub fn operate(operation: Operation, l: i64, r: i64) -> Result<i64, Refusal>
+    ensures { value_meant result ≡ operated (operation_kind operation) (valued l) (valued r) }
+{
+    match operation {
+        Operation::Add => l.checked_add(r).ok_or(Refusal::OutOfRange),
+        Operation::Subtract => l.checked_sub(r).ok_or(Refusal::OutOfRange),
+        Operation::Multiply => l.checked_mul(r).ok_or(Refusal::OutOfRange),
+        Operation::Divide => divide(l, r),
+        Operation::Remainder => remainder(l, r),
+        Operation::Equal => Ok(i64::from(l == r)),
+        Operation::Unequal => Ok(i64::from(l != r)),
+        Operation::Less => Ok(i64::from(l < r)),
+        Operation::Greater => Ok(i64::from(l > r)),
+        Operation::AtMost => Ok(i64::from(l <= r)),
+        Operation::AtLeast => Ok(i64::from(l >= r)),
     }
 }

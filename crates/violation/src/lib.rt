@@ -7,6 +7,7 @@ ghost use Rattle.meaning.specs.Report.{two_bytes, chain_items, violation_items};
 ghost use Rattle.meaning.specs.Violations.{violation};
 ghost use Rattle.violation.specs.Records.{Puts, farthest, longest, path_bytes, padded};
 ghost use Rattle.violation.specs.Kinds.{type_number};
+ghost use Rattle.violation.specs.Decoding.{Decodes};
 
 // The type of a violation, in the order of document 01's numbers.
 #[derive(Clone, Copy, Debug, PartialEq, Eq)]
@@ -38,7 +39,32 @@ impl From<Kind> for u8 {
     }
 }
 
-// A path of at most four names; unused ones are 0.
+// A number that no type of violation has.
+#[derive(Clone, Copy)]
+pub struct NoKind(pub u8);
+
+impl TryFrom<u8> for Kind {
+    type Error = NoKind;
+
+    ghost try_from_gives = { Decodes };
+
+    fn try_from(n: u8) -> Result<Self, NoKind> {
+        match n {
+            1 => Ok(Kind::EnumForward),
+            2 => Ok(Kind::EnumCycle),
+            3 => Ok(Kind::ArrayCycle),
+            4 => Ok(Kind::FieldForward),
+            5 => Ok(Kind::VariableElement),
+            6 => Ok(Kind::JaggedReference),
+            7 => Ok(Kind::JaggedInline),
+            8 => Ok(Kind::NestedJagged),
+            _ => Err(NoKind(n)),
+        }
+    }
+}
+
+// A path of at most four names; unused ones are 0. There is no heap, and the count and the four places are those that a record has: of a
+// slice both would be made here again, and callers would have to keep the array that it is of.
 #[derive(Clone, Copy)]
 pub struct Path {
     pub count: u8,
@@ -53,7 +79,7 @@ pub struct Record {
 }
 
 // Writes a byte where there is a place for it. Returns the place behind it, as all functions here do. The place stays a parameter: a
-// struct of the buffer and the place would be no plainer, as callers keep places in a `Position` and read the buffer's length between.
+// struct of the buffer and the place would be made anew for a record alone, behind the head that stands before it.
 pub fn put_byte(out: &mut [u8], at: usize, value: u8) -> usize
     requires { at < farthest }
     ensures { Puts (value ∷ []) out.old at out.new result }
@@ -65,7 +91,8 @@ pub fn put_byte(out: &mut [u8], at: usize, value: u8) -> usize
     next
 }
 
-// Writes bytes, one behind the other.
+// Writes bytes, one behind the other, and each by itself: a copy of the slice would take memcpy, and of the C library the interface asks
+// for memset alone.
 pub fn put_bytes(out: &mut [u8], at: usize, list: &[u8]) -> usize
     requires { at + length list.now ≤ farthest }
     ensures { Puts list.now out.old at out.new result }
@@ -77,12 +104,14 @@ pub fn put_bytes(out: &mut [u8], at: usize, list: &[u8]) -> usize
     next
 }
 
-// Writes a number in two bytes, low byte first.
+// Writes a number in two bytes, low byte first. Each is stored by itself: copied as two, a report of long chains takes twice as long.
 pub fn put_two(out: &mut [u8], at: usize, value: u16) -> usize
     requires { at + 1 < farthest }
     ensures { Puts (bytes (two_bytes value)) out.old at out.new result }
 {
-    put_bytes(out, at, &value.to_le_bytes())
+    let bytes = value.to_le_bytes();
+    let next = put_byte(out, at, bytes[0]);
+    put_byte(out, next, bytes[1])
 }
 
 // Writes the count of a path and its four names.

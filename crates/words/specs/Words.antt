@@ -1,10 +1,10 @@
 -- What the words behind the program's name ask for.
-use Rattle.std.specs.Prelude.{ℕ, ◌-◌, List, [], ◌∷◌, ◌⊎◌, ◌≡◌, take}
+use Rattle.std.specs.Prelude.{ℕ, ◌-◌, List, [], ◌∷◌, ◌⊎◌, ◌≡◌, take, Option, Some, None}
 use Rattle.decimal.specs.Decimal.{Says}
 use Rattle.words.specs.declared.Word as word
 use Rattle.words.specs.declared.Word.TheVariants as is
 use Rattle.words.specs.declared.Order.{Order}
-use Rattle.words.specs.declared.Order.TheVariants.{Report, Renumber, Chain, Followed, Size, Value, Help, Wrong}
+use Rattle.words.specs.declared.Order.TheVariants.{Report, Renumber, Chain, Followed, Size, Value, Help}
 
 -- the words, in ASCII: renumber, chain, followed, size, value, help, --help, -h
 abbrev pub renumber_word : List ℕ
@@ -35,15 +35,15 @@ short_help_word = 45 ∷ 104 ∷ []
 abbrev pub IsHelp : List ℕ → Type 0
 IsHelp w = (w ≡ help_word) ⊎ (w ≡ long_help_word) ⊎ (w ≡ short_help_word)
 
--- the bytes are this word
-abbrev pub IsWord : List ℕ → word.Word → Type 0
-IsWord w is.Renumber = w ≡ renumber_word
-IsWord w is.Chain = w ≡ chain_word
-IsWord w is.Followed = w ≡ followed_word
-IsWord w is.Size = w ≡ size_word
-IsWord w is.Value = w ≡ value_word
-IsWord w is.Help = IsHelp w
-IsWord w is.Other = (w ≡ renumber_word → ⊥) × (w ≡ chain_word → ⊥) × (w ≡ followed_word → ⊥) × (w ≡ size_word → ⊥) × (w ≡ value_word → ⊥) × (IsHelp w → ⊥)
+-- the bytes are this word, or none
+abbrev pub IsWord : List ℕ → Option word.Word → Type 0
+IsWord w (Some is.Renumber) = w ≡ renumber_word
+IsWord w (Some is.Chain) = w ≡ chain_word
+IsWord w (Some is.Followed) = w ≡ followed_word
+IsWord w (Some is.Size) = w ≡ size_word
+IsWord w (Some is.Value) = w ≡ value_word
+IsWord w (Some is.Help) = IsHelp w
+IsWord w None = (w ≡ renumber_word → ⊥) × (w ≡ chain_word → ⊥) × (w ≡ followed_word → ⊥) × (w ≡ size_word → ⊥) × (w ≡ value_word → ⊥) × (IsHelp w → ⊥)
 
 -- this word, and two that say names
 pub record AsksNames (word : List ℕ) (words : List (List ℕ)) (from to : ℕ) : Type 0 where
@@ -75,20 +75,20 @@ pub record AsksNothing (words : List (List ℕ)) : Type 0 where
   pub size : (definition : ℕ) → AsksNumber size_word words definition → ⊥
   pub value : (definition : ℕ) → AsksNumber value_word words definition → ⊥
 
--- the words ask for this
-abbrev pub Asks : List (List ℕ) → Order → Type 0
-Asks words Report = words ≡ []
-Asks words Renumber = words ≡ renumber_word ∷ []
-Asks words (Chain from to) = AsksNames chain_word words from to
-Asks words (Followed from to) = AsksNames followed_word words from to
-Asks words (Size definition) = AsksNumber size_word words definition
-Asks words (Value definition) = AsksNumber value_word words definition
-Asks words Help = AsksHelp words
-Asks words Wrong = AsksNothing words
+-- the words ask for this, or for nothing that there is
+abbrev pub Asks : List (List ℕ) → Option Order → Type 0
+Asks words (Some Report) = words ≡ []
+Asks words (Some Renumber) = words ≡ renumber_word ∷ []
+Asks words (Some (Chain from to)) = AsksNames chain_word words from to
+Asks words (Some (Followed from to)) = AsksNames followed_word words from to
+Asks words (Some (Size definition)) = AsksNumber size_word words definition
+Asks words (Some (Value definition)) = AsksNumber value_word words definition
+Asks words (Some Help) = AsksHelp words
+Asks words None = AsksNothing words
 
 -- the words ask for nothing else
-abbrev pub AsksOnly : List (List ℕ) → Order → Type 0
-AsksOnly words o = (p : Order) → Asks words p → p ≡ o
+abbrev pub AsksOnly : List (List ℕ) → Option Order → Type 0
+AsksOnly words o = (p : Option Order) → Asks words p → p ≡ o
 
 -- the words behind the program's name, where there are `count` with it: those behind the third stand as one empty word
 abbrev pub words_of : ℕ → List ℕ → List ℕ → List ℕ → List (List ℕ)

@@ -1,8 +1,8 @@
 // What the program's arguments ask for, and what the program makes of what is read and written.
 #![tactic(auto)]
 
-ghost use Rattle.std.specs.Prelude.{List, [], ◌∷◌, ℕ, ◌≡◌};
-ghost use Rattle.decimal.specs.Parsing.{IsParsed};
+ghost use Rattle.std.specs.Prelude.{List, [], ◌∷◌, ℕ, ◌≡◌, Some};
+ghost use Rattle.decimal.specs.Decimal.{Says};
 ghost use Rattle.words.specs.Running.{reads_bundle, message_of};
 ghost use Rattle.words.specs.Words.{IsWord, Asks, AsksOnly, words_of};
 
@@ -15,7 +15,6 @@ enum Word {
     Size,
     Value,
     Help,
-    Other,
 }
 
 // What is asked for.
@@ -28,76 +27,74 @@ pub enum Order {
     Size(u16),
     Value(u16),
     Help,
-    Wrong,
 }
 
-// Which word it is.
-fn word_of(word: &[u8]) -> Word
+// Which word it is, if it is one.
+fn word_of(word: &[u8]) -> Option<Word>
     ensures { IsWord word.now result }
 {
     match word {
-        b"renumber" => Word::Renumber,
-        b"chain" => Word::Chain,
-        b"followed" => Word::Followed,
-        b"size" => Word::Size,
-        b"value" => Word::Value,
-        b"help" | b"--help" | b"-h" => Word::Help,
-        _ => Word::Other,
+        b"renumber" => Some(Word::Renumber),
+        b"chain" => Some(Word::Chain),
+        b"followed" => Some(Word::Followed),
+        b"size" => Some(Word::Size),
+        b"value" => Some(Word::Value),
+        b"help" | b"--help" | b"-h" => Some(Word::Help),
+        _ => None,
     }
 }
 
 // What a word without others asks for.
-fn alone(word: Word) -> Order
-    ensures { (w : List ℕ) → IsWord w word → Asks (w ∷ []) result }
+fn alone(word: Word) -> Option<Order>
+    ensures { (w : List ℕ) → IsWord w (Some word) → Asks (w ∷ []) result }
 {
     match word {
-        Word::Renumber => Order::Renumber,
-        Word::Chain => Order::Wrong,
-        Word::Followed => Order::Wrong,
-        Word::Size => Order::Wrong,
-        Word::Value => Order::Wrong,
-        Word::Help => Order::Help,
-        Word::Other => Order::Wrong,
+        Word::Renumber => Some(Order::Renumber),
+        Word::Chain => None,
+        Word::Followed => None,
+        Word::Size => None,
+        Word::Value => None,
+        Word::Help => Some(Order::Help),
     }
 }
 
 // What a word asks for with one other behind it.
-fn ahead(word: Word, number: Option<u16>) -> Order
-    ensures { (w x : List ℕ) → IsWord w word → IsParsed x number → Asks (w ∷ x ∷ []) result }
+fn ahead(word: Word, number: u16) -> Option<Order>
+    ensures { (w x : List ℕ) → IsWord w (Some word) → Says x number → Asks (w ∷ x ∷ []) result }
 {
-    match (word, number) {
-        (Word::Size, Some(definition)) => Order::Size(definition),
-        (Word::Value, Some(definition)) => Order::Value(definition),
-        _ => Order::Wrong,
+    match word {
+        Word::Size => Some(Order::Size(number)),
+        Word::Value => Some(Order::Value(number)),
+        _ => None,
     }
 }
 
 // What a word asks for with two others behind it.
-fn between(word: Word, from: Option<u16>, to: Option<u16>) -> Order
-    ensures { (w x y : List ℕ) → IsWord w word → IsParsed x from → IsParsed y to → Asks (w ∷ x ∷ y ∷ []) result }
+fn between(word: Word, from: u16, to: u16) -> Option<Order>
+    ensures { (w x y : List ℕ) → IsWord w (Some word) → Says x from → Says y to → Asks (w ∷ x ∷ y ∷ []) result }
 {
-    match (word, from, to) {
-        (Word::Chain, Some(first), Some(last)) => Order::Chain(first, last),
-        (Word::Followed, Some(first), Some(last)) => Order::Followed(first, last),
-        _ => Order::Wrong,
+    match word {
+        Word::Chain => Some(Order::Chain(from, to)),
+        Word::Followed => Some(Order::Followed(from, to)),
+        _ => None,
     }
 }
 
-// What the arguments ask for, of which there are `count`, the program's own name among them.
-pub fn order_of(count: usize, first: &[u8], second: &[u8], third: &[u8]) -> Order
+// What the arguments ask for, if there is such a thing. There are `count` of them, the program's own name among them.
+pub fn order_of(count: usize, first: &[u8], second: &[u8], third: &[u8]) -> Option<Order>
     ensures asks { Asks (words_of count first.now second.now third.now) result }
     ensures asks_only { AsksOnly (words_of count first.now second.now third.now) result }
 {
     match count {
-        0 | 1 => Order::Report,
-        2 => alone(word_of(first)),
-        3 => ahead(word_of(first), decimal::parse_name(second)),
+        0 | 1 => Some(Order::Report),
+        2 => alone(word_of(first)?),
+        3 => ahead(word_of(first)?, decimal::parse_name(second)?),
         4 => between(
-            word_of(first),
-            decimal::parse_name(second),
-            decimal::parse_name(third),
+            word_of(first)?,
+            decimal::parse_name(second)?,
+            decimal::parse_name(third)?,
         ),
-        _ => Order::Wrong,
+        _ => None,
     }
 }
 
@@ -113,17 +110,16 @@ pub enum Message {
 pub fn reads_bundle(order: Order) -> bool
     ensures { result ≡ reads_bundle order }
 {
-    !matches!(order, Order::Help | Order::Wrong)
+    !matches!(order, Order::Help)
 }
 
 // What is said, if something is, where as many bytes were read, or none where reading failed, and all of the output was written or not.
-pub fn message_of(order: Order, read: Option<usize>, written: bool) -> Option<Message>
-    ensures { result ≡ message_of order read written }
+pub fn message_of(read: Option<usize>, written: bool) -> Option<Message>
+    ensures { result ≡ message_of read written }
 {
-    match (order, read) {
-        (Order::Wrong, _) => Some(Message::Arguments),
-        (_, None) => Some(Message::Unread),
-        (_, Some(_)) if written => None,
-        (_, Some(_)) => Some(Message::Unwritten),
+    match (read, written) {
+        (None, _) => Some(Message::Unread),
+        (Some(_), true) => None,
+        (Some(_), false) => Some(Message::Unwritten),
     }
 }

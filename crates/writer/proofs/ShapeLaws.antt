@@ -17,12 +17,8 @@ use Rattle.bundle.specs.declared.RecordForm.{RecordForm}
 use Rattle.bundle.specs.declared.RecordForm.TheVariants.{Header, Definition, Edge}
 use Rattle.bundle.specs.declared.Form.{Form}
 use Rattle.bundle.specs.declared.Form.TheVariants.{OfRecord}
-use Rattle.bundle.specs.View.{form_meant}
-use Rattle.writer.specs.Shapes.{part_of, parts_of, record_kind, one_of, is_count, sound}
-
--- one of four that is none of the first three
-pub the_last : (a b c d n : ℕ) → T (one_of a b c d n) → (n ≡ a → ⊥) → (n ≡ b → ⊥) → (n ≡ c → ⊥) → n ≡ d
-the_last a b c d n t x y z = eqb→eq n d (rw (ne_eqb n a x, ne_eqb n b y, ne_eqb n c z) at t)
+use Rattle.bundle.specs.View.{record_kind, form_meant}
+use Rattle.writer.specs.Shapes.{part_of, parts_of, is_count, sound}
 
 -- the first names of four
 pub first_names : (n : ℕ) → n ≤ 4 → take n (part_of named ∷ part_of named ∷ part_of named ∷ part_of named ∷ []) ≡ parts_of (replicate n named)

@@ -6,8 +6,6 @@ use Rattle.meaning.specs.Kinds.{Form, OfExpr, OfType, OfMember, OfRecord, Unknow
 use Rattle.meaning.specs.Writing.{Field, numeric, named, most, fault, first_fault}
 use Rattle.refusal.specs.declared.Refusal.{Refusal}
 use Rattle.refusal.specs.Numbers.{number, refusal_of}
-use Rattle.bundle.specs.declared.RecordForm.{RecordForm}
-use Rattle.bundle.specs.declared.RecordForm.TheVariants.{Header, Definition, Edge}
 use Rattle.writer.specs.declared.Part.{Part}
 
 -- the bytes of a field
@@ -51,12 +49,6 @@ abbrev pub Checked : List Part → List ℕ → Result ℕ Refusal → Type 0
 Checked ps vs (Ok n) = (first_fault (fields_in ps) vs ≡ none) × (n ≡ 1 + size_of ps)
 Checked ps vs (Err r) = first_fault (fields_in ps) vs ≡ some (number r)
 
--- the kind of a header, definition and edge
-abbrev pub record_kind : RecordForm → ℕ
-record_kind Header = 0x60
-record_kind Definition = 0x61
-record_kind Edge = 0x62
-
 -- n is one of these four
 abbrev pub one_of : ℕ → ℕ → ℕ → ℕ → ℕ → Bool
 one_of a b c d n = eqb n a || (eqb n b || (eqb n c || eqb n d))
@@ -77,6 +69,6 @@ sound (OfExpr Alignof) = true
 sound (OfExpr Binary) = true
 sound (OfExpr Unary) = true
 sound (OfType f) = true
-sound (OfMember w) = eqb w 0 || eqb w 8
+sound (OfMember w) = true
 sound (OfRecord before names behind) = true
 sound Unknown = true

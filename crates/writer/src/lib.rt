@@ -6,16 +6,16 @@ ghost use Rattle.std.proofs.Math.Option.{none, some};
 ghost use Rattle.std.proofs.lemmas.List.Edits.{sets};
 ghost use Rattle.names.specs.Documents.{byte, bytes};
 ghost use Rattle.meaning.specs.Encoding.{number_items};
-ghost use Rattle.meaning.specs.Kinds.{OfExpr, OfMember, form_of};
+ghost use Rattle.meaning.specs.Kinds.{OfExpr, form_of};
 ghost use Rattle.meaning.specs.Writing.{expr_fields, type_fields, member_fields, record_fields, fields_of, named, whole};
 ghost use Rattle.meaning.specs.Writing.{body_items, record_due, writing};
 ghost use Rattle.bundle.specs.Opened.{answer_meant};
-ghost use Rattle.bundle.specs.View.{expr_form_meant, type_form_meant};
-ghost use Rattle.writer.specs.Shapes.{parts_of, ArePartsOf, record_kind, is_width, is_count, sound, fields_in, Narrow, Checked, size_of};
+ghost use Rattle.bundle.specs.View.{expr_form_meant, type_form_meant, member_width, record_kind};
+ghost use Rattle.writer.specs.Shapes.{parts_of, ArePartsOf, is_width, is_count, sound, fields_in, Narrow, Checked, size_of};
 ghost use Rattle.writer.specs.Places.{CallFrom};
 ghost use Rattle.writer.specs.Stored.{Stored};
 
-use bundle::{ExprForm, Form, RecordForm, TypeForm};
+use bundle::{ExprForm, Form, MemberForm, RecordForm, TypeForm};
 use refusal::Refusal;
 
 // A part of a record's body: its bytes, its largest value, and the refusal of a larger one.
@@ -143,15 +143,13 @@ fn type_parts(form: TypeForm) -> &'static [Part]
     }
 }
 
-// The body of a member, whose value has so many bytes.
-fn member_parts(width: u8) -> &'static [Part]
-    requires { T (sound (OfMember width)) }
-    ensures { result.now ≡ parts_of (member_fields width) }
+// The body of a member.
+fn member_parts(form: MemberForm) -> &'static [Part]
+    ensures { result.now ≡ parts_of (member_fields (member_width form)) }
 {
-    if width == 0 {
-        name_parts(1)
-    } else {
-        &NAMED_EIGHT
+    match form {
+        MemberForm::Field | MemberForm::UnionVariant => name_parts(1),
+        MemberForm::EnumVariant | MemberForm::SizedVariant => &NAMED_EIGHT,
     }
 }
 
@@ -173,13 +171,13 @@ fn parts_of(kind: u8) -> Option<&'static [Part]>
     match bundle::form_of(kind) {
         Form::OfExpr(expr) => Some(expr_parts(expr)),
         Form::OfType(ty) => Some(type_parts(ty)),
-        Form::OfMember(width) => Some(member_parts(width)),
+        Form::OfMember(member) => Some(member_parts(member)),
         Form::OfRecord(record) => Some(record_parts(record)),
         Form::Unknown => None,
     }
 }
 
-// Writes a number of `width` bytes, low byte first.
+// Writes a number of `width` bytes, low byte first. `out` and `at` stay two parameters, as of decimal.
 fn put_number(out: &mut [u8], at: usize, width: usize, value: u64)
     requires { (width ≤ 8) × (at + width ≤ length out.old) }
     ensures { out.new ≡ sets out.old at (bytes (number_items width value)) }
@@ -227,8 +225,9 @@ fn write_parts(
     Ok(size)
 }
 
-// Writes the record of this kind at `at`. The values are those of its body, in order; those that the kind does not have are
-// not looked at.
+// Writes the record of this kind at `at`. The values are those of its body, in order; those that the kind does not have are not looked at.
+// The kind is any byte, and one that is no kind is refused: with a form in its place a caller would first be refused by the way to it.
+// parts_of is that way, and write_parts writes the byte itself.
 pub fn write_record(out: &mut [u8], at: usize, kind: u8, values: [u64; 4]) -> Result<usize, Refusal>
     ensures { CallFrom at (writing kind values) out.old out.new (answer_meant result) }
 {

@@ -6,8 +6,8 @@ use Rattle.acceptance.proofs.+walk_definition.Given as goal
 abbrev pub decreases-walk_definition : goal.decreases-walk_definition
 decreases-walk_definition l = unwalked l.marks.now
 
-abbrev pub invariant-loop-at : goal.invariant-loop-at
-invariant-loop-at l = Walking l.s l.i l.end l.initial.marks l.marks l.at
+abbrev pub invariant-loop-j : goal.invariant-loop-j
+invariant-loop-j l = Walking l.definitions.bytes.now l.i l.end l.initial.marks l.marks l.at
 
-abbrev pub decreases-loop-at : goal.decreases-loop-at
-decreases-loop-at l = l.end - l.at
+abbrev pub decreases-loop-j : goal.decreases-loop-j
+decreases-loop-j l = l.end - l.at

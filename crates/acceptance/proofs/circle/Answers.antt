@@ -7,7 +7,7 @@ pub loop-i-init : goal.loop-i-init
 loop-i-init c = settled_start _
 
 pub walk_definition-requires : goal.walk_definition-requires
-walk_definition-requires c = (c.requires, c.loop-i-test.true, settled_marks c.loop-i.invariant)
+walk_definition-requires c = (c.loop-i-test.true, settled_marks c.loop-i.invariant)
 
 pub loop-i-preserved : goal.loop-i-preserved
 loop-i-preserved c = settled_next c.loop-i.invariant (decided_true c.walk_definition.ensures c.if-not-walk_definition.false)
@@ -16,4 +16,4 @@ pub returns-then-not-walk_definition : goal.returns-then-not-walk_definition
 returns-then-not-walk_definition c = loop_circles (decided_loop c.walk_definition.ensures c.if-not-walk_definition.true).1
 
 pub returns : goal.returns
-returns c = settled_end c.loop-i.invariant (omega (arith, c.requires.count))
+returns c = settled_end c.loop-i.invariant (omega (arith, c.args.definitions.now.table.count))

@@ -3,4 +3,4 @@ use Rattle.acceptance.proofs.CircleLaws.{Settled}
 use Rattle.acceptance.proofs.circle.Given as goal
 
 abbrev pub invariant-loop-i : goal.invariant-loop-i
-invariant-loop-i l = Settled (bundle_of l.s) l.marks l.i
+invariant-loop-i l = Settled (bundle_of l.definitions.bytes.now) l.marks l.i

@@ -21,17 +21,8 @@ loop-i-preserved c = (rw length-set c.loop-i.invariant.0, placing_next c.loop-i.
 pub returns-in_err-after : goal.returns-in_err-after
 returns-in_err-after c = rw (handed_on _ c.from_residual.ensures.1) (placing_refused c.loop-i.invariant.1 c.loop-i-test.true _ (sym c.in_err-after.was ∙ c.definition_at.ensures))
 
-pub overflow_add-places-2 : goal.overflow_add-places-2
-overflow_add-places-2 c = omega (arith, c.loop-i.invariant.1.far, c.loop-i.invariant.1.size, c.loop-i.invariant.0, c.requires.0, c.requires.1, c.requires.2)
-
 pub overflow_cast-places-2 : goal.overflow_cast-places-2
 overflow_cast-places-2 c = record { fits = omega (arith, c.loop-i.invariant.1.far, c.loop-i.invariant.1.size, c.loop-i.invariant.0, c.requires.0, c.requires.1, c.requires.2) }
-
-pub offset_bounds-places-count : goal.offset_bounds-places-count
-offset_bounds-places-count c = omega (arith, c.loop-i.invariant.1.far, c.loop-i.invariant.1.size, c.loop-i.invariant.0, c.requires.0, c.requires.1, c.requires.2)
-
-pub bounds-places-count : goal.bounds-places-count
-bounds-places-count c = omega (arith, c.loop-i.invariant.1.far, c.loop-i.invariant.1.size, c.loop-i.invariant.0, c.requires.0, c.requires.1, c.requires.2)
 
 pub shape_of-places : goal.shape_of-places
 shape_of-places c = rw length-set c.loop-i.invariant.0

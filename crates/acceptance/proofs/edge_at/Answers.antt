@@ -1,4 +1,5 @@
 -- `acceptance::edge_at` meets its contract: its test is that of `read_edge`.
+-- The lines that repeat answer goals of their own; with `using(..)` the check did not find them.
 use native.Mathlib.Omega.{arith}
 use mathlib.Core.Path.{refl, sym, ◌∙◌}
 use Rattle.meaning.specs.Kinds.{lookup}

@@ -25,17 +25,8 @@ pub enter-r-requires : goal.enter-r-requires
 enter-r-requires c = let l = c.loop-i.invariant.1 in
     (noting_part l, omega (arith, noting_few l, noting_room l), omega (arith, noting_few l, l.count, l.placed.room))
 
-pub overflow_add-places : goal.overflow_add-places
-overflow_add-places c = record { fits = omega (arith, noting_few c.loop-i.invariant.1, noting_few_all c.loop-i.invariant.1) }
-
-pub offset_bounds-places-names : goal.offset_bounds-places-names
-offset_bounds-places-names c = record { fits = omega (arith, noting_few c.loop-i.invariant.1, noting_few_all c.loop-i.invariant.1) }
-
 pub bounds-places-names : goal.bounds-places-names
 bounds-places-names c = omega (arith, noting_few c.loop-i.invariant.1, noting_few_all c.loop-i.invariant.1, c.loop-i.invariant.1.size, noting_length c.loop-i.invariant.1 c.loop-i-test.true c.u16_at-name.ensures (c.enter-r.ensures, c.enter-r.ensures.only.size))
-
-pub overflow_add-names : goal.overflow_add-names
-overflow_add-names c = record { fits = omega (arith, noting_few c.loop-i.invariant.1, noting_few_all c.loop-i.invariant.1) }
 
 pub loop-i-preserved : goal.loop-i-preserved
 loop-i-preserved c =

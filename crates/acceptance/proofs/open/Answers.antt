@@ -6,8 +6,8 @@ use Rattle.acceptance.proofs.open.Goals as goal
 pub returns-in_err-layout : goal.returns-in_err-layout
 returns-in_err-layout c = rw (handed_on _ c.from_residual.ensures.1) (due_refused _ _ c.in_err-layout.ensures)
 
-pub circle-requires : goal.circle-requires
-circle-requires c = c.in_ok-layout.ensures.table
+pub invariant_of-definitions : goal.invariant_of-definitions
+invariant_of-definitions c = record { table = c.in_ok-layout.ensures.table }
 
 pub returns-then-circle : goal.returns-then-circle
 returns-then-circle c = due_circle c.in_ok-layout.ensures (sym c.if-circle.true ∙ c.circle.ensures)

@@ -11,6 +11,7 @@ use Rattle.bundle.proofs.Steps.{many_none, many_next, many_refused}
 use Rattle.bundle.proofs.TypeLaws.{type_short, type_other, primitive_ends, type_ref_ends, struct_ends, union_ends, size_union_ends, enum_ends, array_ends}
 use Rattle.bundle.proofs.TypeLaws.{group_ends, group_wrong, enum_members, enum_tag_refused, enum_wrong, array_element, array_size_refused, array_head_refused, member_type_lem, member_head_refused}
 use Rattle.bundle.specs.declared.Form.TheVariants.{OfType}
+use Rattle.bundle.specs.View.{member_kind}
 use Rattle.bundle.proofs.+types.Goals as goal
 
 pub array_at-returns : goal.array_at-returns
@@ -44,13 +45,13 @@ pub member_at-returns-in_err-next : goal.member_at-returns-in_err-next
 member_at-returns-in_err-next t c = handed_on _ c.from_residual.ensures.1 ∙ sym (member_head_refused (read_expr 0) _ _ _ _ _ (sym c.in_err-next.was ∙ c.member_head_at.ensures))
 
 pub members_at-loop-preserved : goal.members_at-loop-preserved
-members_at-loop-preserved t c = many_next more none (read_member (read_ty c.args.depth) c.args.kind) _ _ _ _ _ c.loop-test.true (sym c.in_ok-next.was ∙ c.member_at.ensures) ∙ c.loop.invariant
+members_at-loop-preserved t c = many_next more none (read_member (read_ty c.args.depth) (member_kind c.args.member)) _ _ _ _ _ c.loop-test.true (sym c.in_ok-next.was ∙ c.member_at.ensures) ∙ c.loop.invariant
 
 pub members_at-returns-in_err-next : goal.members_at-returns-in_err-next
-members_at-returns-in_err-next t c = handed_on _ c.from_residual.ensures.1 ∙ sym (many_refused more none (read_member (read_ty c.args.depth) c.args.kind) _ _ _ _ (omega (arith, c.loop-test.true)) (sym c.in_err-next.was ∙ c.member_at.ensures)) ∙ c.loop.invariant
+members_at-returns-in_err-next t c = handed_on _ c.from_residual.ensures.1 ∙ sym (many_refused more none (read_member (read_ty c.args.depth) (member_kind c.args.member)) _ _ _ _ (omega (arith, c.loop-test.true)) (sym c.in_err-next.was ∙ c.member_at.ensures)) ∙ c.loop.invariant
 
 pub members_at-returns : goal.members_at-returns
-members_at-returns t c = sym (many_none more none (read_member (read_ty c.args.depth) c.args.kind) _ _ _ (omega (arith, c.loop-test.false))) ∙ c.loop.invariant
+members_at-returns t c = sym (many_none more none (read_member (read_ty c.args.depth) (member_kind c.args.member)) _ _ _ (omega (arith, c.loop-test.false))) ∙ c.loop.invariant
 
 pub type_at-returns-then-depth-eq0 : goal.type_at-returns-then-depth-eq0
 unfolding read_ty

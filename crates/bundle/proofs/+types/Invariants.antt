@@ -1,7 +1,7 @@
 use Prim.Native.Nat.{◌+◌, ◌-◌, ◌*◌}
 use mathlib.Core.Path.{◌≡◌}
 use Rattle.meaning.specs.ReadType.{read_ty, read_members}
-use Rattle.bundle.specs.View.{step_of}
+use Rattle.bundle.specs.View.{member_kind, step_of}
 use Rattle.bundle.proofs.+types.Given as goal
 
 abbrev pub decreases-array_at : goal.decreases-array_at
@@ -23,4 +23,4 @@ abbrev pub decreases-type_at : goal.decreases-type_at
 decreases-type_at l = 4 * l.depth
 
 abbrev pub invariant-members_at-loop : goal.invariant-members_at-loop
-invariant-members_at-loop l = step_of (read_members (read_ty l.depth) l.kind (l.count - l.counter) l.s l.next) ≡ step_of (read_members (read_ty l.depth) l.kind l.count l.s l.at)
+invariant-members_at-loop l = step_of (read_members (read_ty l.depth) (member_kind l.member) (l.count - l.counter) l.s l.next) ≡ step_of (read_members (read_ty l.depth) (member_kind l.member) l.count l.s l.at)

@@ -5,8 +5,9 @@ use mathlib.Core.Path.{sym}
 use lib.Dec.{lit<}
 use Rattle.meaning.specs.Kinds.{kinds}
 use Rattle.bundle.specs.View.{expr_form_meant, type_form_meant, form_meant}
-use Rattle.meaning.proofs.KindTable.{hit, gap, below, above, side}
+use Rattle.meaning.proofs.KindTable.{hit, gap, below, side}
 use Rattle.bundle.proofs.Widths.{index_below, index_fits}
+use Rattle.bundle.proofs.Forms.{kind_member}
 use Rattle.bundle.proofs.form_of.Goals as goal
 
 pub overflow_cast-result : goal.overflow_cast-result
@@ -50,7 +51,7 @@ returns-then-kind-eq13 c = sym (hit kinds 1 2 _ tt (lit< tt) (omega arith) (omeg
 
 pub returns-else-kind-eq13 : goal.returns-else-kind-eq13
 unfolding form_meant expr_form_meant
-returns-else-kind-eq13 c = sym (hit kinds 1 3 _ tt (lit< tt) (above c.in-13-to-14.if-kind-lt13-own.false c.if-kind-eq13.false) (omega arith))
+returns-else-kind-eq13 c = sym (hit kinds 1 3 _ tt (lit< tt) (omega arith) (omega arith))
 
 pub returns-in-16-to-35 : goal.returns-in-16-to-35
 unfolding form_meant expr_form_meant
@@ -66,11 +67,11 @@ returns-in-48-to-59 c = sym (hit kinds 1 6 _ tt (lit< tt) (omega arith) (omega a
 
 pub returns-in-80-to-81 : goal.returns-in-80-to-81
 unfolding form_meant
-returns-in-80-to-81 c = sym (hit kinds 1 13 _ tt (lit< tt) (omega arith) (omega arith))
+returns-in-80-to-81 c = kind_member _ c.bare_member.ensures
 
 pub returns-in-82-to-83 : goal.returns-in-82-to-83
 unfolding form_meant
-returns-in-82-to-83 c = sym (hit kinds 1 14 _ tt (lit< tt) (omega arith) (omega arith))
+returns-in-82-to-83 c = kind_member _ c.valued_member.ensures
 
 pub returns-then-kind-eq96 : goal.returns-then-kind-eq96
 unfolding form_meant
@@ -82,7 +83,7 @@ returns-then-kind-eq97 c = sym (hit kinds 1 16 _ tt (lit< tt) (omega arith) (ome
 
 pub returns-else-kind-eq97 : goal.returns-else-kind-eq97
 unfolding form_meant
-returns-else-kind-eq97 c = sym (hit kinds 1 17 _ tt (lit< tt) (above (above c.in-96-to-98.if-kind-lt96-own.false c.if-kind-eq96.false) c.if-kind-eq97.false) (omega arith))
+returns-else-kind-eq97 c = sym (hit kinds 1 17 _ tt (lit< tt) (omega arith) (omega arith))
 
 pub returns-in_default : goal.returns-in_default
 unfolding form_meant
@@ -100,7 +101,7 @@ pub returns-in_default-4 : goal.returns-in_default-4
 unfolding form_meant
 returns-in_default-4 c =
     sym (⊎_elim (λ p. gap kinds 1 6 64 _ tt (lit< tt) tt (omega arith) p)
-    (λ p. gap kinds 1 12 80 _ tt (lit< tt) tt (above (above (above (above (above (above p c.in_default.in_default-own.rest.0.0.0.0.0.1) c.in_default.in_default-own.rest.0.0.0.0.1) c.in_default.in_default-own.rest.0.0.0.1) c.in_default.in_default-own.rest.0.0.1) c.in_default.in_default-own.rest.0.1) c.in_default.in_default-own.rest.1) (omega arith)) (side _ 0x40))
+    (λ p. gap kinds 1 12 80 _ tt (lit< tt) tt (omega (arith, p)) (omega arith)) (side _ 0x40))
 
 pub returns-in_default-5 : goal.returns-in_default-5
 unfolding form_meant

@@ -5,4 +5,4 @@ use Rattle.containers.proofs.Containing.{Containing}
 use Rattle.containers.proofs.is_enum_referencing_same_container_struct.Given as goal
 
 abbrev pub invariant-loop-i : goal.invariant-loop-i
-invariant-loop-i l = (e : ℕ) → LeadFor l.s e l.lead → Containing (bundle_of l.s) e l.container l.i
+invariant-loop-i l = (e : ℕ) → LeadFor l.definitions.bytes.now e l.lead → Containing (bundle_of l.definitions.bytes.now) e l.container l.i

@@ -9,6 +9,6 @@ returns-in_default c = (lead_none _ _ c.shape_at-shape.result c.shape_at-shape.e
 
 pub returns : goal.returns
 returns c = (
-  lead_some _ _ c.shape_at-shape.result c.shape_at-shape.ensures c.in-TypeRef.is (c.unwrap_or.ensures ∙ first_or_count c.requires.0 _ _ c.definition_of.ensures),
-  omega (arith, lead_few c.requires.0 _ _ c.definition_of.ensures, c.unwrap_or.ensures),
+  lead_some _ _ c.shape_at-shape.result c.shape_at-shape.ensures c.in-TypeRef.is (c.unwrap_or.ensures ∙ first_or_count c.args.definitions.now.table _ _ c.definition_of.ensures),
+  omega (arith, lead_few c.args.definitions.now.table _ _ c.definition_of.ensures, c.unwrap_or.ensures),
 )

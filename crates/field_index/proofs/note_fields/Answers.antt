@@ -6,22 +6,20 @@ use Rattle.field_index.proofs.Walking.{noting_start, started, noting_name, notin
 use Rattle.field_index.proofs.note_fields.Goals as goal
 
 pub loop-k-init : goal.loop-k-init
-loop-k-init c = let a = c in noting_start a.args.n a.args.notes.now a.args.a a.requires.n_nonzero.2 a.args.at a.requires.table.1
+loop-k-init c = noting_start c.args.n c.args.notes.now c.args.a c.requires.n_nonzero.2 c.args.at c.requires.table.1
 
 pub field_at-field-requires : goal.field_at-field-requires
 field_at-field-requires c = field_reads c.loop-k.invariant.pass (omega arith)
 
-pub note_name-d-requires : goal.note_name-d-requires
-note_name-d-requires c = let a = c in let l = c.loop-k in record { k_lt_n = (omega arith, omega (arith, a.requires.n_nonzero.3), omega (arith, a.requires.n_nonzero.2, l.invariant.only.size, (started a.args.n a.args.notes.now a.args.a a.requires.n_nonzero.2).size)); noted_to = (_, l.invariant.noted, noting_name l.invariant (omega arith) c.field_at-field.ensures) }
+pub note_name-d-requires-clause-noted_to : goal.note_name-d-requires-clause-noted_to
+note_name-d-requires-clause-noted_to c = (_, c.loop-k.invariant.noted, noting_name c.loop-k.invariant (omega arith) c.field_at-field.ensures)
 
-pub lead_at-lead-requires : goal.lead_at-lead-requires
-lead_at-lead-requires c = let a = c in
-    (table_within (table_within (table_within a.requires.table.0 a.requires.n_nonzero.1 (started a.args.n a.args.notes.now a.args.a a.requires.n_nonzero.2)) a.requires.n_nonzero.1 c.loop-k.invariant.only) (omega (arith, a.requires.n_nonzero.1)) c.note_name-d.ensures.1, c.field_at-field.ensures.reads)
+pub invariant_of-definitions : goal.invariant_of-definitions
+invariant_of-definitions c = let n = c.requires.n_nonzero in let begun = started c.args.n c.args.notes.now c.args.a n.2 in
+    record { table = table_within (table_within (table_within c.requires.table.0 n.1 begun) n.1 c.loop-k.invariant.only) (omega (arith, n.1)) c.note_name-d.ensures.1 }
 
 pub loop-k-preserved : goal.loop-k-preserved
-loop-k-preserved c = let a = c in
-    noting_next c.loop-k.invariant (omega arith) c.field_at-field.ensures c.note_name-d.ensures (omega (arith, a.requires.n_nonzero.2, (started a.args.n a.args.notes.now a.args.a a.requires.n_nonzero.2).size)) c.lead_at-lead.ensures.0
+loop-k-preserved c = noting_next c.loop-k.invariant (omega arith) c.field_at-field.ensures c.note_name-d.ensures (omega (arith, c.requires.n_nonzero.2, (started c.args.n c.args.notes.now c.args.a c.requires.n_nonzero.2).size)) c.lead_at-lead.ensures.0
 
-pub returns : goal.returns
-returns c = let a = c in
-    noting_end c.loop-k.invariant (omega arith) a.requires.n_nonzero.0 a.requires.n_nonzero.2 a.requires.table.1 (started a.args.n a.args.notes.now a.args.a a.requires.n_nonzero.2)
+pub returns-clause-noted : goal.returns-clause-noted
+returns-clause-noted c = noting_end c.loop-k.invariant (omega arith) c.requires.n_nonzero.0 c.requires.n_nonzero.2 c.requires.table.1 (started c.args.n c.args.notes.now c.args.a c.requires.n_nonzero.2)

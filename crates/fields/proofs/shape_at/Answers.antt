@@ -3,14 +3,11 @@ use native.Mathlib.Omega.{arith}
 use mathlib.Core.Path.{sym, ap, ◌∙◌}
 use Rattle.meaning.specs.Tree.{type_ref}
 use Rattle.bundle.proofs.Forms.{not_type, primitive_meant, type_ref_meant, struct_meant, union_meant, enum_meant, array_meant, size_union_meant}
-use Rattle.bundle.proofs.TypeTrees.{type_there, no_other}
+use Rattle.bundle.proofs.TypeTrees.{no_other}
 use Rattle.bundle.proofs.Heads.{count_refused}
 use Rattle.bundle.proofs.Parts.{type_ref_there, type_opened, struct_count}
 use Rattle.fields.proofs.ShapeLaws.{primitive_plain, union_plain, size_union_plain, type_ref_is, struct_is, enum_is, array_is}
 use Rattle.fields.proofs.shape_at.Goals as goal
-
-pub bounds-s-at : goal.bounds-s-at
-bounds-s-at c = type_there _ _ _ c.requires
 
 pub returns-in_default : goal.returns-in_default
 returns-in_default c = absurd (no_other (type_opened _ _ _ _ c.requires c.form_of.ensures) c.requires (not_type _ (c.in_default.not-OfType)))
@@ -20,18 +17,6 @@ overflow_add-at c = omega (arith, type_ref_there (type_opened _ _ _ _ c.requires
 
 pub u16_at-requires : goal.u16_at-requires
 u16_at-requires c = type_ref_there (type_opened _ _ _ _ c.requires c.form_of.ensures) c.requires (type_ref_meant (cc))
-
-pub overflow_add-at-in-Struct : goal.overflow_add-at-in-Struct
-overflow_add-at-in-Struct c = omega (arith, type_there _ _ _ c.requires)
-
-pub count_at-requires : goal.count_at-requires
-count_at-requires c = omega (arith, type_there _ _ _ c.requires)
-
-pub overflow_add-result : goal.overflow_add-result
-overflow_add-result c = omega (arith, (array_is (type_opened _ _ _ _ c.requires c.form_of.ensures) c.requires (array_meant (cc))).inside)
-
-pub bounds-s-at-in-Array : goal.bounds-s-at-in-Array
-bounds-s-at-in-Array c = omega (arith, (array_is (type_opened _ _ _ _ c.requires c.form_of.ensures) c.requires (array_meant (cc))).inside)
 
 pub returns-in-Primitive : goal.returns-in-Primitive
 returns-in-Primitive c = primitive_plain (type_opened _ _ _ _ c.requires c.form_of.ensures) c.requires (primitive_meant (cc))

@@ -1,19 +1,13 @@
 -- `fields::type_end` meets its contract.
 use native.Mathlib.Omega.{arith}
 use Rattle.bundle.proofs.Forms.{not_type, primitive_meant, type_ref_meant}
-use Rattle.bundle.proofs.TypeTrees.{type_there, no_other}
+use Rattle.bundle.proofs.TypeTrees.{no_other}
 use Rattle.bundle.proofs.Parts.{type_opened}
 use Rattle.fields.proofs.ShapeLaws.{primitive_end, type_ref_end}
 use Rattle.fields.proofs.type_end.Goals as goal
 
-pub bounds-s-at : goal.bounds-s-at
-bounds-s-at c = type_there _ _ _ c.requires
-
 pub returns-in_default : goal.returns-in_default
 returns-in_default c = absurd (no_other (type_opened _ _ _ _ c.requires c.form_of.ensures) c.requires (not_type _ (c.in_default.not-OfType)))
-
-pub overflow_add-result : goal.overflow_add-result
-overflow_add-result c = omega (arith, type_there _ _ _ c.requires)
 
 pub overflow_add-result-in-TypeRef : goal.overflow_add-result-in-TypeRef
 overflow_add-result-in-TypeRef c = omega (arith, (type_ref_end (type_opened _ _ _ _ c.requires c.form_of.ensures) c.requires (type_ref_meant (cc))).1)

@@ -1,9 +1,13 @@
--- The bytes that were read stand in the first places, and each turn adds some.
-use Rattle.std.proofs.Common.{length, ◌-◌, ◌≤◌}
+-- The bytes that were read are within the places, and each turn but the last leaves fewer.
+use Rattle.std.proofs.Common.{length, take, ◌-◌, ◌≤◌}
+use Rattle.std.specs.Io.KnownBytes.{Consumes}
 use Rattle.input.proofs.read_full.Given as goal
 
 abbrev pub invariant-loop-done : goal.invariant-loop-done
-invariant-loop-done g l = l.done ≤ length l.buf
+invariant-loop-done g l = record {
+  within : l.done ≤ length l.buf;
+  reads : Consumes (g.R.Read.remaining l.initial.input) (g.R.Read.remaining l.input) (take l.done l.buf);
+}
 
 abbrev pub decreases-loop-done : goal.decreases-loop-done
 decreases-loop-done g l = length l.initial.buf - l.done

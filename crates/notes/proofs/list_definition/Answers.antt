@@ -6,7 +6,6 @@ use Rattle.notes.proofs.list_definition.Goals as goal
 
 pub list_from-requires : goal.list_from-requires
 list_from-requires c =
-    let a = c in
-    let at = c.place_of-place.ensures.at in
+    let at = c.place_of-at.ensures.at in
     let ends = c.end_of-end.ensures in
-    (a.requires.0, a.requires.1, type_bound 24 _ _ _ (omega arith) ends, refs_there a.requires.0.table a.requires.2 at ends, refs_room a.requires.0.table a.requires.2 at ends a.requires.3)
+    (c.requires.0, c.requires.1, type_bound 24 _ _ _ (omega arith) ends, refs_there c.requires.0.table c.requires.2 at ends, refs_room c.requires.0.table c.requires.2 at ends c.requires.3)

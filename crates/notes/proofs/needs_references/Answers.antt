@@ -1,10 +1,11 @@
--- `notes::needs_references` meets its contract.
-use mathlib.Core.Path.{sym, ◌∙◌}
-use Rattle.notes.proofs.ArrayLaws.{needs_constant, needs_array}
+use Rattle.notes.proofs.ArrayLaws.{needs_enum, needs_array, needs_other}
 use Rattle.notes.proofs.needs_references.Goals as goal
 
-pub returns-then-is_enum_with_constant_size_variants : goal.returns-then-is_enum_with_constant_size_variants
-returns-then-is_enum_with_constant_size_variants c = needs_constant _ (sym c.if-is_enum_with_constant_size_variants.true ∙ c.is_enum_with_constant_size_variants.ensures)
+pub returns-in-Enum : goal.returns-in-Enum
+returns-in-Enum c = needs_enum _ _ c.in-Enum.ensures c.is_enum_with_constant_size_variants.ensures
 
-pub returns : goal.returns
-returns c = needs_array _ (sym c.if-is_enum_with_constant_size_variants.false ∙ c.is_enum_with_constant_size_variants.ensures) c.is_constant_array.ensures
+pub returns-in-Array : goal.returns-in-Array
+returns-in-Array c = needs_array _ _ c.in-Array.ensures c.is_constant.ensures
+
+pub returns-in_default : goal.returns-in_default
+returns-in_default c = needs_other _ _ _ c.shape_at.ensures c.in_default.not-Enum c.in_default.not-Array

@@ -6,8 +6,5 @@ use Rattle.offsets.proofs.fixed_size.Goals as goal
 pub returns-in_err-layout : goal.returns-in_err-layout
 returns-in_err-layout c = rw (handed_on _ c.from_residual.ensures.1) (refused_call _ _ _ _ c.in_err-layout.ensures)
 
-pub fixed_opened-requires : goal.fixed_opened-requires
-fixed_opened-requires c = (c.in_ok-layout.ensures.0.table, c.in_ok-layout.ensures.1)
-
 pub returns : goal.returns
 returns c = opened_call c.in_ok-layout.ensures c.fixed_opened.ensures

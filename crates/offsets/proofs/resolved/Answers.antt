@@ -6,31 +6,22 @@ use Rattle.offsets.proofs.PlacingLaws.{following_start, following_plain, ref_the
 use Rattle.offsets.proofs.resolved.Goals as goal
 
 pub loop-init : goal.loop-init
-loop-init c = following_start c.requires.0 c.requires.2 _ c.requires.1
-
-pub bounds-places-i : goal.bounds-places-i
-bounds-places-i c = omega (arith, c.requires.0.count, c.requires.0.placed.room, c.requires.0.size, c.loop.invariant.below)
+loop-init c = following_start c.args.definitions.now.table c.requires.1 _ c.requires.0
 
 pub leads-requires : goal.leads-requires
-leads-requires c = place_there c.requires.0 _ c.loop.invariant.below
+leads-requires c = place_there c.args.definitions.now.table _ c.loop.invariant.below
 
 pub returns-then-not-leads : goal.returns-then-not-leads
-returns-then-not-leads c = following_plain c.requires.0 c.requires.2 c.loop.invariant c.leads.ensures c.if-not-leads.true
-
-pub overflow_add-at : goal.overflow_add-at
-overflow_add-at c = omega (arith, ref_there c.requires.0 c.requires.2 c.loop.invariant c.leads.ensures c.if-not-leads.false)
+returns-then-not-leads c = following_plain c.args.definitions.now.table c.requires.1 c.loop.invariant c.leads.ensures c.if-not-leads.true
 
 pub u16_at-requires : goal.u16_at-requires
-u16_at-requires c = omega (arith, ref_there c.requires.0 c.requires.2 c.loop.invariant c.leads.ensures c.if-not-leads.false)
+u16_at-requires c = omega (arith, ref_there c.args.definitions.now.table c.requires.1 c.loop.invariant c.leads.ensures c.if-not-leads.false)
 
 pub returns-in_default : goal.returns-in_default
-returns-in_default c = following_none c.requires.0 c.requires.2 c.loop.invariant c.leads.ensures c.if-not-leads.false c.u16_at.ensures refl c.loop-test.true c.in_default.ensures
+returns-in_default c = following_none c.args.definitions.now.table c.requires.1 c.loop.invariant c.leads.ensures c.if-not-leads.false c.u16_at.ensures refl c.loop-test.true c.in_default.ensures
 
 pub loop-preserved : goal.loop-preserved
-loop-preserved c = following_next c.requires.0 c.requires.2 c.loop.invariant c.leads.ensures c.if-not-leads.false c.u16_at.ensures c.in-Some.ensures.0 c.loop-test.true c.in-Some.ensures.1
-
-pub bounds-places-i-2 : goal.bounds-places-i-2
-bounds-places-i-2 c = omega (arith, c.requires.0.count, c.requires.0.placed.room, c.requires.0.size, c.loop.invariant.below)
+loop-preserved c = following_next c.args.definitions.now.table c.requires.1 c.loop.invariant c.leads.ensures c.if-not-leads.false c.u16_at.ensures c.in-Some.ensures.0 c.loop-test.true c.in-Some.ensures.1
 
 pub returns : goal.returns
-returns c = following_end c.requires.0 c.requires.2 c.loop.invariant c.loop-test.false
+returns c = following_end c.args.definitions.now.table c.requires.1 c.loop.invariant c.loop-test.false

@@ -2,4 +2,4 @@ use Rattle.offsets.proofs.PlacingLaws.{Following}
 use Rattle.offsets.proofs.resolved.Given as goal
 
 abbrev pub invariant-loop : goal.invariant-loop
-invariant-loop l = Following l.s l.count l.definition l.i l.counter
+invariant-loop l = Following l.bytes l.count l.definition l.i l.counter

@@ -1,9 +1,15 @@
 -- `report::report` meets its contract: that of `report_long`, or as there with few places.
 use Prim.Native.Nat.{ℕ}
 use native.Mathlib.Omega.{arith}
+use mathlib.Core.Path.{subst}
 use lib.ListN.{length-replicate}
 use Rattle.refusal.proofs.NumberLaws.{handed_on}
+use Rattle.meaning.specs.Calls.{Call}
+use Rattle.meaning.specs.Calls as calls
 use Rattle.meaning.specs.Due.{reporting}
+use Rattle.meaning.specs.Report.{report}
+use Rattle.bundle.specs.Definitions.{bundle_of}
+use Rattle.bundle.specs.Opened.{answer_meant}
 use Rattle.chain.proofs.Called.{turned_down}
 use Rattle.draft.proofs.Reporting.{called}
 use Rattle.report.proofs.report.Goals as goal
@@ -15,12 +21,12 @@ pub returns-in_err-layout : goal.returns-in_err-layout
 unfolding reporting
 returns-in_err-layout c = rw (handed_on _ c.from_residual.ensures.1) (turned_down _ _ (c.in_err-layout.ensures _))
 
-pub note-requires : goal.note-requires
-note-requires c = let o = c.in_ok-layout.ensures in (o.0, omega (arith, length-replicate {A = ℕ} 4360 0, c.open.auto.places))
+pub notes_of-notes-requires : goal.notes_of-notes-requires
+notes_of-notes-requires c = let o = c.in_ok-layout.ensures in (o.0, omega (arith, length-replicate {A = ℕ} 4360 0, c.open.auto.places))
 
 pub report_in-requires : goal.report_in-requires
-report_in-requires c = let o = c.in_ok-layout.ensures in let n = c.note.ensures in record { room = (omega (arith, c.if-layout-gt-FEW_EDGES.false), omega (arith, c.if-layout-gt-FEW_EDGES.false), omega arith, omega arith); layout_of = (n.0, o.1, n.1) }
+report_in-requires c = let o = c.in_ok-layout.ensures in let n = c.notes_of-notes in record { room = rw n.ensures.1 (omega (arith, c.if-layout-gt-FEW_EDGES.false), omega (arith, c.if-layout-gt-FEW_EDGES.false), omega arith, omega arith); acyclic = rw n.ensures.0 o.1 }
 
 pub returns : goal.returns
 unfolding reporting
-returns c = let o = c.in_ok-layout.ensures in called o.0 o.1 c.report_in.ensures
+returns c = let o = c.in_ok-layout.ensures in called o.0 o.1 (subst (λ s. Call (calls.result (report (bundle_of s))) c.args.out.now c.report_in.new.out (answer_meant c.report_in.result)) c.notes_of-notes.ensures.0 c.report_in.ensures)

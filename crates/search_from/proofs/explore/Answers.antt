@@ -1,9 +1,12 @@
 use native.Mathlib.Omega.{arith}
-use Rattle.search_from.proofs.Turns.{entries_few, start, start_unmarked, explored, followed_over}
+use Rattle.search_from.proofs.Turns.{entries_few, start, explored, followed_over}
 use Rattle.search_from.proofs.explore.Goals as goal
 
 pub loop-head-init : goal.loop-head-init
-loop-head-init c = let p = c.requires in let a = c.args in (start p.indexed.0 a.work.now a.from p.from_bound.0 p.indexed.1 p.indexed.2, start_unmarked p.indexed.0 a.work.now a.from a.to p.indexed.2 p.from_bound.2)
+loop-head-init c =
+    let p = c.requires in
+    let t = start p.indexed.0 p.from_bound.0 p.indexed.1 p.indexed.2 c.mark-n.ensures in
+    (t.0, t.1 c.args.to p.from_bound.2)
 
 pub overflow_add-head : goal.overflow_add-head
 overflow_add-head c = let s = c.requires.indexed.0 in omega (arith, s.few, s.small, entries_few s c.loop-head.invariant.0)

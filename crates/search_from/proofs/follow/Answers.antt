@@ -2,12 +2,7 @@ use native.Mathlib.Omega.{arith}
 use Rattle.search_from.proofs.Turns.{bounds, follow_start, follow_room, follow_found, follow_turn, follow_end}
 use Rattle.search_from.proofs.follow.Goals as goal
 
-pub overflow_mul-x : goal.overflow_mul-x
-overflow_mul-x c = let p = c.requires in let z = bounds p.0 p.3.1 p.1 in omega arith
-
-pub overflow_add-x : goal.overflow_add-x
-overflow_add-x c = let p = c.requires in let z = bounds p.0 p.3.1 p.1 in omega arith
-
+-- three times the same: with `bounds` named on the function, as `using`, the check does not find them
 pub offset_bounds-work-head : goal.offset_bounds-work-head
 offset_bounds-work-head c = let p = c.requires in let z = bounds p.0 p.3.1 p.1 in omega arith
 

@@ -10,7 +10,7 @@ abbrev pub decreases-named_type_test : goal.decreases-named_type_test
 decreases-named_type_test l = 2 * l.left
 
 abbrev pub invariant-inline_type_test-loop-next : goal.invariant-inline_type_test-loop-next
-invariant-inline_type_test-loop-next l = Testing l.s (is_jagged l.test) l.left l.at l.end l.kept l.next
+invariant-inline_type_test-loop-next l = Testing l.definitions.bytes.now (is_jagged l.test) l.left l.at l.end l.kept l.from
 
 abbrev pub decreases-inline_type_test-loop-next : goal.decreases-inline_type_test-loop-next
-decreases-inline_type_test-loop-next l = l.end - l.next
+decreases-inline_type_test-loop-next l = l.end - l.from

@@ -1,45 +1,40 @@
 use native.Mathlib.Omega.{arith}
-use mathlib.Core.Path.{sym, ◌∙◌}
-use Rattle.bundle.proofs.Forms.{not_type, enum_meant}
-use Rattle.bundle.proofs.TypeTrees.{type_deep, type_there, no_other}
-use Rattle.bundle.proofs.Parts.{type_opened, type_meant, enum_count, tag_read, enum_parts}
+use mathlib.Core.Bool.{false≢true}
+use mathlib.Core.Path.{refl, sym, ◌∙◌}
+use Rattle.bundle.specs.View.{type_form_meant}
+use Rattle.bundle.proofs.TypeTrees.{type_deep}
+use Rattle.bundle.proofs.Parts.{type_opened, enum_count, tag_read, enum_parts}
 use Rattle.bundle.proofs.Heads.{count_refused}
 use Rattle.sizes.proofs.ReferenceLaws.{expr_no}
 use Rattle.sizes.proofs.PrimitiveLaws.{constant_enum_not, constant_few, constant_more}
 use Rattle.sizes.proofs.is_enum_with_constant_size_variants.Goals as goal
 
-pub bounds-s-at : goal.bounds-s-at
-bounds-s-at c = type_there _ _ _ c.requires
+pub returns-then-not-type_is : goal.returns-then-not-type_is
+unfolding type_form_meant
+returns-then-not-type_is c = sym (constant_enum_not (type_opened _ _ _ _ c.requires refl) c.requires (λ p. false≢true (sym c.if-not-type_is.true ∙ c.type_is.ensures.1 p)))
 
 pub returns-in_default : goal.returns-in_default
-returns-in_default c = absurd (no_other (type_opened _ _ _ _ c.requires c.form_of.ensures) c.requires (not_type _ c.in_default.not-OfType))
-
-pub returns-in_default-t : goal.returns-in_default-t
-returns-in_default-t c = sym (constant_enum_not (type_opened _ _ _ _ c.requires c.form_of.ensures) c.requires _ (type_meant c.in-OfType.is) c.in_default-t.not-Enum)
-
-pub overflow_add-at : goal.overflow_add-at
-overflow_add-at c = omega (arith, type_there _ _ _ c.requires)
-
-pub count_at-requires : goal.count_at-requires
-count_at-requires c = omega (arith, type_there _ _ _ c.requires)
-
-pub returns-in_default-count_at : goal.returns-in_default-count_at
-returns-in_default-count_at c = absurd (count_refused _ _ _ (enum_count (type_opened _ _ _ _ c.requires c.form_of.ensures) c.requires (enum_meant (cc))) (sym c.in_default-count_at.is ∙ c.count_at.ensures))
+unfolding type_form_meant
+returns-in_default c = absurd (count_refused _ _ _ (enum_count (type_opened _ _ _ _ c.requires refl) c.requires (c.type_is.ensures.0 c.if-not-type_is.false)) (sym c.in_default.is ∙ c.count_at.ensures))
 
 pub overflow_sub-depth : goal.overflow_sub-depth
 overflow_sub-depth c = omega (arith, type_deep _ _ _ c.requires)
 
 pub returns-in_default-expr_at : goal.returns-in_default-expr_at
-returns-in_default-expr_at c = absurd (expr_no _ _ _ _ (tag_read (type_opened _ _ _ _ c.requires c.form_of.ensures) c.requires (enum_meant (cc)) _ _ (sym c.in-Ok.is ∙ c.count_at.ensures)) (sym c.in_default-expr_at.is ∙ c.expr_at.ensures))
+unfolding type_form_meant
+returns-in_default-expr_at c = absurd (expr_no _ _ _ _ (tag_read (type_opened _ _ _ _ c.requires refl) c.requires (c.type_is.ensures.0 c.if-not-type_is.false) _ _ (sym c.in-Ok.is ∙ c.count_at.ensures)) (sym c.in_default-expr_at.is ∙ c.expr_at.ensures))
 
 pub returns-then-n-lt2 : goal.returns-then-n-lt2
-returns-then-n-lt2 c = sym (constant_few (enum_parts (type_opened _ _ _ _ c.requires c.form_of.ensures) c.requires (enum_meant (cc)) _ _ (sym c.in-Ok.is ∙ c.count_at.ensures) _ (sym c.in-Ok-expr_at.is ∙ c.expr_at.ensures)) c.if-n-lt2.true)
+unfolding type_form_meant
+returns-then-n-lt2 c = sym (constant_few (enum_parts (type_opened _ _ _ _ c.requires refl) c.requires (c.type_is.ensures.0 c.if-not-type_is.false) _ _ (sym c.in-Ok.is ∙ c.count_at.ensures) _ (sym c.in-Ok-expr_at.is ∙ c.expr_at.ensures)) c.if-n-lt2.true)
 
 pub overflow_sub-depth-2 : goal.overflow_sub-depth-2
 overflow_sub-depth-2 c = omega (arith, type_deep _ _ _ c.requires)
 
 pub one_size-requires : goal.one_size-requires
-one_size-requires c = (enum_parts (type_opened _ _ _ _ c.requires c.form_of.ensures) c.requires (enum_meant (cc)) _ _ (sym c.in-Ok.is ∙ c.count_at.ensures) _ (sym c.in-Ok-expr_at.is ∙ c.expr_at.ensures)).reads
+unfolding type_form_meant
+one_size-requires c = (enum_parts (type_opened _ _ _ _ c.requires refl) c.requires (c.type_is.ensures.0 c.if-not-type_is.false) _ _ (sym c.in-Ok.is ∙ c.count_at.ensures) _ (sym c.in-Ok-expr_at.is ∙ c.expr_at.ensures)).reads
 
 pub returns : goal.returns
-returns c = c.one_size.ensures ∙ constant_more (enum_parts (type_opened _ _ _ _ c.requires c.form_of.ensures) c.requires (enum_meant (cc)) _ _ (sym c.in-Ok.is ∙ c.count_at.ensures) _ (sym c.in-Ok-expr_at.is ∙ c.expr_at.ensures)) (omega arith)
+unfolding type_form_meant
+returns c = c.one_size.ensures ∙ constant_more (enum_parts (type_opened _ _ _ _ c.requires refl) c.requires (c.type_is.ensures.0 c.if-not-type_is.false) _ _ (sym c.in-Ok.is ∙ c.count_at.ensures) _ (sym c.in-Ok-expr_at.is ∙ c.expr_at.ensures)) (omega arith)

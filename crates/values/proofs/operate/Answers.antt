@@ -1,55 +1,52 @@
-use native.Mathlib.Omega.{arith}
 use mathlib.Core.Bool.{not}
 use mathlib.Core.Path.{refl, ap, ◌∙◌}
 use Rattle.fixed_meaning.specs.Value.{operation_of, truth}
+use Rattle.values.specs.declared.Operation.TheVariants.{Add, Subtract, Multiply, Divide, Remainder, Equal, Unequal, Less, Greater, AtMost, AtLeast}
 use Rattle.values.specs.Meant.{value_meant}
 use Rattle.values.proofs.Arithmetic.{in_range}
-use Rattle.values.proofs.Operations.{truth_is, same_test, by_kind, by_kind_back, uncovered, other_kind}
+use Rattle.values.proofs.Operations.{truth_is, same_test, by_kind, by_kind_back}
 use Rattle.values.proofs.operate.Goals as goal
 
-pub returns-in-16 : goal.returns-in-16
+pub returns-in-Add : goal.returns-in-Add
 unfolding operation_of
-returns-in-16 c = ap value_meant c.ok_or.ensures.value ∙ in_range _ _ c.checked_add.ensures ∙ by_kind_back _ c.args.l c.args.r c.ranges.l c.ranges.r 0x10 _ c.in-16.is refl
+returns-in-Add c = ap value_meant c.ok_or.ensures.value ∙ in_range _ _ c.checked_add.ensures ∙ by_kind_back Add c.in-Add.is c.args.l c.args.r c.ranges.l c.ranges.r _ refl
 
-pub returns-in-17 : goal.returns-in-17
+pub returns-in-Subtract : goal.returns-in-Subtract
 unfolding operation_of
-returns-in-17 c = ap value_meant c.ok_or-in-17.ensures.value ∙ in_range _ _ c.checked_sub.ensures ∙ by_kind_back _ c.args.l c.args.r c.ranges.l c.ranges.r 0x11 _ c.in-17.is refl
+returns-in-Subtract c = ap value_meant c.ok_or-in-Subtract.ensures.value ∙ in_range _ _ c.checked_sub.ensures ∙ by_kind_back Subtract c.in-Subtract.is c.args.l c.args.r c.ranges.l c.ranges.r _ refl
 
-pub returns-in-18 : goal.returns-in-18
+pub returns-in-Multiply : goal.returns-in-Multiply
 unfolding operation_of
-returns-in-18 c = ap value_meant c.ok_or-in-18.ensures.value ∙ in_range _ _ c.checked_mul.ensures ∙ by_kind_back _ c.args.l c.args.r c.ranges.l c.ranges.r 0x12 _ c.in-18.is refl
+returns-in-Multiply c = ap value_meant c.ok_or-in-Multiply.ensures.value ∙ in_range _ _ c.checked_mul.ensures ∙ by_kind_back Multiply c.in-Multiply.is c.args.l c.args.r c.ranges.l c.ranges.r _ refl
 
-pub returns-in-19 : goal.returns-in-19
+pub returns-in-Divide : goal.returns-in-Divide
 unfolding operation_of
-returns-in-19 c = c.divide.ensures ∙ by_kind_back _ c.args.l c.args.r c.ranges.l c.ranges.r 0x13 _ c.in-19.is refl
+returns-in-Divide c = c.divide.ensures ∙ by_kind_back Divide c.in-Divide.is c.args.l c.args.r c.ranges.l c.ranges.r _ refl
 
-pub returns-in-20 : goal.returns-in-20
+pub returns-in-Remainder : goal.returns-in-Remainder
 unfolding operation_of
-returns-in-20 c = c.remainder.ensures ∙ by_kind_back _ c.args.l c.args.r c.ranges.l c.ranges.r 0x14 _ c.in-20.is refl
+returns-in-Remainder c = c.remainder.ensures ∙ by_kind_back Remainder c.in-Remainder.is c.args.l c.args.r c.ranges.l c.ranges.r _ refl
 
-pub returns-in-27 : goal.returns-in-27
+pub returns-in-Equal : goal.returns-in-Equal
 unfolding operation_of
-returns-in-27 c = truth_is _ _ c.from.ensures ∙ ap truth (same_test c.args.l c.args.r c.ranges.l c.ranges.r) ∙ by_kind _ _ _ 0x1B _ c.in-27.is refl
+returns-in-Equal c = truth_is _ _ c.from.ensures ∙ ap truth (same_test c.args.l c.args.r c.ranges.l c.ranges.r) ∙ by_kind Equal c.in-Equal.is _ _ _ refl
 
-pub returns-in-28 : goal.returns-in-28
+pub returns-in-Unequal : goal.returns-in-Unequal
 unfolding operation_of
-returns-in-28 c = truth_is _ _ c.from-in-28.ensures ∙ ap (λ t. truth (not t)) (same_test c.args.l c.args.r c.ranges.l c.ranges.r) ∙ by_kind _ _ _ 0x1C _ c.in-28.is refl
+returns-in-Unequal c = truth_is _ _ c.from-in-Unequal.ensures ∙ ap (λ t. truth (not t)) (same_test c.args.l c.args.r c.ranges.l c.ranges.r) ∙ by_kind Unequal c.in-Unequal.is _ _ _ refl
 
-pub returns-in-29 : goal.returns-in-29
+pub returns-in-Less : goal.returns-in-Less
 unfolding operation_of
-returns-in-29 c = truth_is _ _ c.from-in-29.ensures ∙ by_kind_back _ c.args.l c.args.r c.ranges.l c.ranges.r 0x1D _ c.in-29.is refl
+returns-in-Less c = truth_is _ _ c.from-in-Less.ensures ∙ by_kind_back Less c.in-Less.is c.args.l c.args.r c.ranges.l c.ranges.r _ refl
 
-pub returns-in-30 : goal.returns-in-30
+pub returns-in-Greater : goal.returns-in-Greater
 unfolding operation_of
-returns-in-30 c = truth_is _ _ c.from-in-30.ensures ∙ by_kind_back _ c.args.l c.args.r c.ranges.l c.ranges.r 0x1E _ c.in-30.is refl
+returns-in-Greater c = truth_is _ _ c.from-in-Greater.ensures ∙ by_kind_back Greater c.in-Greater.is c.args.l c.args.r c.ranges.l c.ranges.r _ refl
 
-pub returns-in-31 : goal.returns-in-31
+pub returns-in-AtMost : goal.returns-in-AtMost
 unfolding operation_of
-returns-in-31 c = truth_is _ _ c.from-in-31.ensures ∙ by_kind_back _ c.args.l c.args.r c.ranges.l c.ranges.r 0x1F _ c.in-31.is refl
+returns-in-AtMost c = truth_is _ _ c.from-in-AtMost.ensures ∙ by_kind_back AtMost c.in-AtMost.is c.args.l c.args.r c.ranges.l c.ranges.r _ refl
 
-pub returns-in-32 : goal.returns-in-32
+pub returns-in-AtLeast : goal.returns-in-AtLeast
 unfolding operation_of
-returns-in-32 c = truth_is _ _ c.from-in-32.ensures ∙ by_kind_back _ c.args.l c.args.r c.ranges.l c.ranges.r 0x20 _ c.in-32.is refl
-
-pub returns-in_default : goal.returns-in_default
-returns-in_default c = other_kind _ _ _ (uncovered _ (omega arith) (λ h. omega arith) (λ h. omega arith))
+returns-in-AtLeast c = truth_is _ _ c.from-in-AtLeast.ensures ∙ by_kind_back AtLeast c.in-AtLeast.is c.args.l c.args.r c.ranges.l c.ranges.r _ refl

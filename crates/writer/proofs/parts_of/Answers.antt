@@ -7,10 +7,6 @@ pub expr_parts-requires : goal.expr_parts-requires
 unfolding form_meant
 expr_parts-requires c = kind_sound _ _ _ (omega arith) c.form_of.ensures c.in-OfExpr.is
 
-pub member_parts-requires : goal.member_parts-requires
-unfolding form_meant
-member_parts-requires c = kind_sound _ _ _ (omega arith) c.form_of.ensures c.in-OfMember.is
-
 pub returns-in-OfExpr : goal.returns-in-OfExpr
 unfolding form_meant
 returns-in-OfExpr c = rw (← c.form_of.ensures, c.in-OfExpr.is) c.expr_parts.ensures
