@@ -71,12 +71,12 @@ fn note_names(s: &[u8], count: usize, places: &mut [u16])
     ensures { Table s.now count places.new }
 {
     let start = bundle::TABLE_AT;
-    table::empty::<{ bundle::BUCKETS }>(&mut places[start..], 0);
+    table::empty(&mut places[start..], 0, bundle::BUCKETS);
     let mut names = 0;
     for i in 0..count {
         let at = places[i] as usize;
         let name = bundle::u16_at(s, at - 2);
-        let r = table::enter::<{ bundle::BUCKETS }>(&mut places[start..], 0, names, name);
+        let r = table::enter(&mut places[start..], 0, bundle::BUCKETS, names, name);
         places[bundle::FIRSTS_AT + names] = i as u16;
         if r == names {
             names += 1;
@@ -164,7 +164,7 @@ fn circle(definitions: &Definitions<'_>) -> bool
 }
 
 // The layout of the bundle that the bytes are, and in `places` the position of each definition's type and the first definition of
-// each name; or the number for which the bytes are refused. What `places` holds before is free.
+// each name; or the refusal of the bytes. What `places` holds before is free.
 pub fn open(bundle: &[u8], places: &mut [u16]) -> Result<Layout, Refusal>
     requires { places_end ≤ length places.old }
     ensures { IsOpened bundle.now places.new result }
@@ -181,7 +181,7 @@ pub fn open(bundle: &[u8], places: &mut [u16]) -> Result<Layout, Refusal>
     Ok(layout)
 }
 
-// Whether the bytes are accepted: a result of no length, or the number for which they are refused.
+// Whether the bytes are accepted: a result of no length, or why they are refused.
 pub fn accept(bundle: &[u8]) -> Result<usize, Refusal>
     ensures { answer_meant result ≡ answer_of (acceptance bundle.now) 0 }
 {

@@ -6,7 +6,7 @@ ghost use Rattle.meaning.specs.Kinds.{form_of};
 ghost use Rattle.meaning.specs.ReadExpr.{body, read_expr};
 ghost use Rattle.meaning.specs.ReadType.{head, array_head, member_head, read_ty, read_member, read_members, read_group, read_enum, read_array};
 ghost use Rattle.meaning.specs.Reader.{little};
-ghost use Rattle.bundle.specs.View.{member_kind, member_width, form_meant, kind_is, IsType};
+ghost use Rattle.bundle.specs.View.{member_kind, member_width, form_meant, kind_is, MemberOf, IsType};
 ghost use Rattle.bundle.specs.View.{operands_of, step_of, count_of, Decodes};
 
 use refusal::Refusal;
@@ -182,7 +182,8 @@ pub fn value_width(member: MemberForm) -> u8
 // The form of a kind. The compiler takes this function into its callers, which then branch once on the kind, as long as no table of
 // jumps goes over much more than the types: so Sizeof, Alignof and the records outside types are ranges.
 pub fn form_of(kind: u8) -> Form
-    ensures { form_meant result ≡ form_of kind }
+    ensures form { form_meant result ≡ form_of kind }
+    ensures member { MemberOf kind result }
 {
     match kind {
         0x01..=0x08 => Form::OfExpr(ExprForm::Literal(WIDTHS[(kind - 1) as usize])),

@@ -47,11 +47,11 @@ fn number(bytes: &[u8], at: usize, count: usize, direction: Direction, edges: &m
 {
     let names = 5 * count + 1;
     let turn = direction as usize;
-    table::empty::<BUCKETS>(edges, names);
+    table::empty(edges, names, BUCKETS);
     let mut m = 0;
     for i in 0..2 * count {
         let name = bundle::u16_at(bytes, at + 6 * (i / 2) + 2 * ((i + turn) % 2) + 1);
-        let r = table::enter::<BUCKETS>(edges, names, m, name);
+        let r = table::enter(edges, names, BUCKETS, m, name);
         m = m.max(r + 1);
         edges[3 * (i / 2) + i % 2 + 1] = r as u16;
     }

@@ -41,10 +41,7 @@ fn value_at(s: &[u8], at: usize, depth: usize) -> Result<(i64, usize), Refusal>
     match form {
         ExprForm::Literal(w) => {
             let width = usize::from(w);
-            let Some(literal) = values::literal_of(kind) else {
-                return Err(Refusal::NotCovered);
-            };
-            let value = values::literal_value(literal, number_at(s, at + 1, width))?;
+            let value = values::literal_value(kind, number_at(s, at + 1, width))?;
             Ok((value, at + 1 + width))
         }
         ExprForm::Binary => binary_at(s, at, depth),
@@ -63,7 +60,7 @@ fn binary_at(s: &[u8], at: usize, depth: usize) -> Result<(i64, usize), Refusal>
     };
     let (l, next) = value_at(s, at + 1, depth - 1)?;
     let (r, end) = value_at(s, next, depth - 1)?;
-    let value = values::operate(operation, l, r)?;
+    let value = values::apply(operation, l, r)?;
     Ok((value, end))
 }
 

@@ -17,7 +17,7 @@ use Rattle.extents.specs.declared.extent.Members.{Members}
 use Rattle.extents.specs.declared.Packing.TheVariants.{Natural, Packed}
 use Rattle.extents.specs.declared.Unsized.{Unsized}
 use Rattle.extents.specs.declared.Unsized.TheVariants.{Circle, WrongAlignment, Varies, TooLarge}
-use Rattle.extents.specs.Meant.{reason, extent_meant, members_meant, mark, packing_of, least_of, both, varied, attributes}
+use Rattle.extents.specs.Meant.{reason, extent_by, members_by, extent_meant, members_meant, mark, packing_of, least_of, Both, varied, attributes}
 
 -- the least of two refusals is that of the least number
 least_number : (j k : Unsized) → number (reason (least_of j k)) ≡ min (number (reason j)) (number (reason k))
@@ -58,49 +58,49 @@ within : (n : ℕ) (e : meaning.Extent) → n ≤ largest → e ≡ bounded n e
 unfolding bounded
 within n e h = rw (le-leb n largest h)
 
--- what both hold, or the refusal that is met
-module _ (w : meaning.Extent → meaning.Extent → meaning.Extent)
-    (right : (n a k : ℕ) → w (sized n a) (unsized k) ≡ unsized k)
-    (left : (j n a : ℕ) → w (unsized j) (sized n a) ≡ unsized j)
-    (least : (j k : ℕ) → w (unsized j) (unsized k) ≡ unsized (min j k)) where
-  both_refused : (so : Result Members Unsized) (part : Result Extent Unsized) (k : Unsized) → both so part ≡ Err k → members_meant (Err k) ≡ w (members_meant so) (extent_meant part)
-  unfolding extent_meant members_meant
-  both_refused (Ok x) (Ok y) k e = absurd (true≢false (ap is_ok e))
-  both_refused (Ok x) (Err i) k e = let q : i ≡ k = cc in rw q (sym (right _ _ _))
-  both_refused (Err i) (Ok y) k e = let q : i ≡ k = cc in rw q (sym (left _ _ _))
-  both_refused (Err i) (Err j) k e = let q : least_of i j ≡ k = cc in ap (λ x. unsized (number (reason x))) (sym q) ∙ ap unsized (least_number i j) ∙ sym (least _ _)
+-- by the numbers of refusals: what both hold, or the refusal that is met
+module _ {R : Type 0} (n : R → ℕ) where
+  module _ (w : meaning.Extent → meaning.Extent → meaning.Extent)
+      (right : (m a k : ℕ) → w (sized m a) (unsized k) ≡ unsized k)
+      (left : (j m a : ℕ) → w (unsized j) (sized m a) ≡ unsized j)
+      (least : (j k : ℕ) → w (unsized j) (unsized k) ≡ unsized (min j k)) where
+    both_refused : (so : Result Members R) (part : Result Extent R) (r : Result (Members × Extent) R) (k : R) → Both n so part r → r ≡ Err k → members_by n (Err k) ≡ w (members_by n so) (extent_by n part)
+    both_refused (Ok x) (Ok y) r k b e = absurd (true≢false (ap is_ok (sym b ∙ e)))
+    both_refused (Ok x) (Err i) r k b e = let p = sym b ∙ e in let q : i ≡ k = cc in rw q (sym (right _ _ _))
+    both_refused (Err i) (Ok y) r k b e = let p = sym b ∙ e in let q : i ≡ k = cc in rw q (sym (left _ _ _))
+    both_refused (Err i) (Err j) r k b e = let q : n k ≡ min (n i) (n j) = rw e at b in ap unsized q ∙ sym (least _ _)
 
-pub field_refused : (packed : ℕ) (so : Result Members Unsized) (part : Result Extent Unsized) (k : Unsized) → both so part ≡ Err k → members_meant (Err k) ≡ with_field packed (members_meant so) (extent_meant part)
-unfolding with_field
-field_refused packed = both_refused (with_field packed) (λ n a k. refl) (λ j n a. refl) (λ j k. refl)
+  pub field_refused : (packed : ℕ) (so : Result Members R) (part : Result Extent R) (r : Result (Members × Extent) R) (k : R) → Both n so part r → r ≡ Err k → members_by n (Err k) ≡ with_field packed (members_by n so) (extent_by n part)
+  unfolding with_field
+  field_refused packed = both_refused (with_field packed) (λ m a k. refl) (λ j m a. refl) (λ j k. refl)
 
-pub member_refused : (so : Result Members Unsized) (part : Result Extent Unsized) (k : Unsized) → both so part ≡ Err k → members_meant (Err k) ≡ with_member (members_meant so) (extent_meant part)
-unfolding with_member
-member_refused = both_refused with_member (λ n a k. refl) (λ j n a. refl) (λ j k. refl)
+  pub member_refused : (so : Result Members R) (part : Result Extent R) (r : Result (Members × Extent) R) (k : R) → Both n so part r → r ≡ Err k → members_by n (Err k) ≡ with_member (members_by n so) (extent_by n part)
+  unfolding with_member
+  member_refused = both_refused with_member (λ m a k. refl) (λ j m a. refl) (λ j k. refl)
 
--- one field or member more
-module _ (so : Result Members Unsized) (part : Result Extent Unsized) (a : Members) (b : Extent) (e : both so part ≡ Ok (a, b)) where
-  there : (so ≡ Ok a) × (part ≡ Ok b)
-  there = go so part e
-    where
-      go : (so : Result Members Unsized) (part : Result Extent Unsized) → both so part ≡ Ok (a, b) → (so ≡ Ok a) × (part ≡ Ok b)
-      go (Ok x) (Ok y) e = let q : ◌≡◌ {A = Members × Extent} (x, y) (a, b) = cc in (ap (λ p. Ok p.0) q, ap (λ p. Ok p.1) q)
-      go (Ok x) (Err k) e = absurd (true≢false (sym (ap is_ok e)))
-      go (Err j) (Ok y) e = absurd (true≢false (sym (ap is_ok e)))
-      go (Err j) (Err k) e = absurd (true≢false (sym (ap is_ok e)))
+  -- one field or member more
+  module _ (so : Result Members R) (part : Result Extent R) (r : Result (Members × Extent) R) (a : Members) (b : Extent) (d : Both n so part r) (e : r ≡ Ok (a, b)) where
+    there : (so ≡ Ok a) × (part ≡ Ok b)
+    there = go so part (rw e at d)
+      where
+        go : (so : Result Members R) (part : Result Extent R) → Both n so part (Ok (a, b)) → (so ≡ Ok a) × (part ≡ Ok b)
+        go (Ok x) (Ok y) e = let q : ◌≡◌ {A = Members × Extent} (x, y) (a, b) = cc in (ap (λ p. Ok p.0) q, ap (λ p. Ok p.1) q)
+        go (Ok x) (Err k) e = absurd (true≢false (ap is_ok e))
+        go (Err j) (Ok y) e = absurd (true≢false (ap is_ok e))
+        go (Err j) (Err k) e = absurd e
 
-  module _ (packed o : ℕ) (w : o ≡ offset_of packed a.end b.alignment) where
-    pub field_over : largest < o → members_meant (Err TooLarge) ≡ with_field packed (members_meant so) (extent_meant part)
-    unfolding extent_meant members_meant with_field
-    field_over h = rw (there.0, there.1, ← w) (over o _ h)
+    module _ (packed o : ℕ) (w : o ≡ offset_of packed a.end b.alignment) where
+      pub field_over : largest < o → (k : R) → n k ≡ 12 → members_by n (Err k) ≡ with_field packed (members_by n so) (extent_by n part)
+      unfolding with_field
+      field_over h k t = rw (there.0, there.1, ← w, t) (over o _ h)
 
-    pub field_joined : o ≤ largest → (m : Members) → m.end ≡ o + b.size → m.alignment ≡ max a.alignment b.alignment → members_meant (Ok m) ≡ with_field packed (members_meant so) (extent_meant part)
-    unfolding extent_meant members_meant with_field
-    field_joined h m p q = rw (there.0, there.1, ← w, p, q) (within o _ h)
+      pub field_joined : o ≤ largest → (end al : ℕ) → end ≡ o + b.size → al ≡ max a.alignment b.alignment → sized end al ≡ with_field packed (members_by n so) (extent_by n part)
+      unfolding with_field
+      field_joined h end al p q = rw (there.0, there.1, ← w, p, q) (within o _ h)
 
-  pub member_joined : (m : Members) → m.end ≡ max a.end b.size → m.alignment ≡ max a.alignment b.alignment → members_meant (Ok m) ≡ with_member (members_meant so) (extent_meant part)
-  unfolding extent_meant members_meant with_member
-  member_joined m p q = rw (there.0, there.1, p, q) refl
+    pub member_joined : (end al : ℕ) → end ≡ max a.end b.size → al ≡ max a.alignment b.alignment → sized end al ≡ with_member (members_by n so) (extent_by n part)
+    unfolding with_member
+    member_joined end al p q = rw (there.0, there.1, p, q) refl
 
 -- members that are all there
 module _ (a : Attributes) (so : Result Members Unsized) where

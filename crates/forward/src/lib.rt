@@ -20,7 +20,7 @@ fn is_later_field(places: &[u16], name: u16, j: usize, next: usize) -> bool
     requires { next + 1 < length places.now }
     ensures { result ≡ is_later_at places.now name j next }
 {
-    places[next] == name && j < usize::from(places[next + 1]).saturating_sub(1)
+    places[next] == name && j.saturating_add(1) < usize::from(places[next + 1])
 }
 
 // Where the first such reference is listed from `from` on, if there is one before `end`.
@@ -28,7 +28,8 @@ fn find_later_field(places: &[u16], name: u16, j: usize, from: usize, end: usize
     requires { ((k : ℕ) × (from + 3 * k ≡ end)) × (end ≤ length places.now) }
     ensures { ((k : ℕ) → from + 3 * k ≡ end → result ≡ later_from places.now name j k from) × IfSome result (λ at. at + 3 ≤ end) }
 {
-    for next in (from..end).step_by(3) {
+    for k in 0..(end - from) / 3 {
+        let next = from + 3 * k;
         if is_later_field(places, name, j, next) {
             return Some(next);
         }

@@ -20,6 +20,7 @@ told s at =
     let expr = faults.expr_only OfAPart among s in
     let type = faults.type_only OfAPart among s in
     record {
+      kind = λ k. faults.kind_only OfAPart among s k at;
       body = λ w. faults.body_only OfAPart among s w at;
       expr = λ d. expr d at;
       head = faults.head_only OfAPart among s 2 at;

@@ -7,6 +7,7 @@ use Rattle.meaning.specs.ReadExpr.{body, read_expr}
 use Rattle.meaning.specs.ReadType.{head, array_head, member_head, read_member, read_members, read_group, read_enum, read_array, read_ty}
 use Rattle.meaning.specs.ReadBundle.{opening, read_definition, read_header, read_edge, read_edges}
 use Rattle.refusals.specs.Numbers.{Only}
+use Rattle.bundle.specs.View.{kind_is}
 
 -- one of 2 to 7, and the number of the refusal by which the code says it
 abbrev pub OfAPart : ℕ → Type 0
@@ -18,6 +19,7 @@ Told = Only OfAPart
 
 -- each reader of which a contract speaks, at every place of any bytes
 pub record Parts (s : List ℕ) (at : ℕ) : Type 0 where
+  pub kind : (k : ℕ) → Told (kind_is k s at)
   pub body : (w : ℕ) → Told (body w s at)
   pub expr : (d : ℕ) → Told (read_expr d s at)
   pub head : Told (head 2 s at)

@@ -26,7 +26,9 @@ fn input_buffer() -> [u8; bundle::BYTE_LIMIT + 1]
 
 // An argument of at most as many bytes as there are places. One that is longer or missing counts as empty, which no word and
 // no number is: with an `Option`, words::order_of would take three of them and begin each arm with `?`, for the same answer.
-fn argument<'a>(rt: &impl Env, i: usize, buf: &'a mut [u8]) -> &'a [u8] {
+fn argument<'a>(rt: &impl Env, i: usize, buf: &'a mut [u8]) -> &'a [u8]
+    ensures { length result.now ≤ length buf.old }
+{
     match rt.arg(i, buf) {
         Ok(n) => &buf[..n],
         Err(_) => &[],
@@ -63,7 +65,7 @@ fn read_for<R: Read>(input: &mut R, order: Order, buf: &mut [u8]) -> Option<usiz
     ensures reads { ReadFor (reads_bundle order) result buf.new (R.remaining input.old) (R.remaining input.new) }
     ensures unread { reads_bundle order ≡ false → input.new ≡ input.old }
 {
-    if words::reads_bundle(order) {
+    if words::reads_bundle(Some(order)) {
         return input::read_full(input, buf).ok();
     }
     Some(0)
@@ -76,7 +78,7 @@ fn output(order: Order, read: Option<usize>, input: &[u8], out: &mut [u8]) -> us
     ensures { Holds (output_of order read input.now) out.new result }
 {
     match read {
-        Some(n) => responses::answer(order, &input[..n], out),
+        Some(n) => responses::answer(Some(order), &input[..n], out),
         None => 0,
     }
 }
@@ -114,14 +116,14 @@ fn run<R: Read, W: Write>(input: &mut R, to: &mut W, asked: Option<Order>) -> Op
     ensures wrong { asked ≡ None → (result ≡ Some Arguments) × (input.new ≡ input.old) × (to.new ≡ to.old) }
 {
     let Some(order) = asked else {
-        return Some(Message::Arguments);
+        return words::message_of(asked, Some(0), true);
     };
     let mut places = input_buffer();
     let read = read_for(input, order, &mut places);
     let mut out = [0; responses::ROOM];
     let size = output(order, read, &places, &mut out);
     let written = write(to, order, &out[..size]);
-    words::message_of(read, written.is_ok())
+    words::message_of(Some(order), read, written.is_ok())
 }
 
 // Says it on standard error. Where that cannot be written, nothing is said.

@@ -16,7 +16,7 @@ pub fn definition_of(definitions: &Definitions<'_>, name: u16) -> Option<usize>
     let places = definitions.places;
     let names = places[bundle::NAMES_AT] as usize;
     let start = bundle::TABLE_AT;
-    let r = table::place_of::<{ bundle::BUCKETS }>(&places[start..], 0, names, name)?;
+    let r = table::place_of(&places[start..], 0, bundle::BUCKETS, names, name)?;
     Some(places[bundle::FIRSTS_AT + r] as usize)
 }
 

@@ -1,5 +1,5 @@
 -- `circles` is true exactly where some definition leads back to itself.
---     settled_step                    one step needs one less
+--     settled_step, settled_more      one step needs one less; more is enough too
 --     circles_iff                     the law
 --     settled_of                      where nothing circles, every definition is settled at the count of definitions
 use Prim.Native.Nat.{ℕ, zero, suc, ◌≤◌, ◌<◌}
@@ -16,7 +16,7 @@ use lib.Dec.{ltb}
 use lib.ListN.{length, get_or, length-map}
 use borrow.Author.Tests.{ltb-true, lt-ltb}
 use Rattle.meaning.proofs.Pigeonhole.{Absent, Distinct, distinct_size}
-use Rattle.meaning.proofs.Lists.{all_of, not_all, get_elem?_below, find}
+use Rattle.meaning.proofs.Lists.{all_of, all_true, not_all, get_elem?_below, find}
 use Rattle.meaning.specs.Tree.{Ty, Bundle}
 use Rattle.meaning.specs.Lists.{all}
 use Rattle.meaning.specs.Lookup.{count, type_at, definition_of}
@@ -76,6 +76,14 @@ module _ (b : Bundle) where
   pub settled_zero : (i : ℕ) → settled b zero i ≡ true → ⊥
   unfolding settled
   settled_zero i h = false≢true h
+
+  -- more is enough too
+  pub settled_more : (k m i : ℕ) → k ≤ m → settled b k i ≡ true → settled b m i ≡ true
+  unfolding settled
+  settled_more zero m i l h = absurd (false≢true h)
+  settled_more (suc k) zero i l h = absurd (omega arith)
+  settled_more (suc k) (suc m) i l h =
+      all_true (settled b m) (leads_to b i) (λ j e. settled_more k m j (le_of_suc-le-suc l) (all_of (settled b k) (leads_to b i) h j e))
 
   -- A definition that leads to itself is never settled.
 

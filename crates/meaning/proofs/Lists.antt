@@ -1,5 +1,5 @@
 -- Lemmas on the lists of specs/Lists.antt.
-use Prim.Native.Nat.{ℕ, zero, suc, ◌<◌, suc-le-suc}
+use Prim.Native.Nat.{ℕ, zero, suc, ◌+◌, ◌<◌, suc-le-suc}
 use mathlib.Core.Logic.{◌⊎◌, inl, inr}
 use mathlib.Core.Path.{◌≡◌, refl, sym, ap, ap₂, ◌∙◌}
 use mathlib.Core.List.{List, [], ◌∷◌, ◌++◌, append_assoc, map, Memᴰ}
@@ -35,6 +35,10 @@ not_all {A} p (y ∷ ys) h = go (p y) refl h (not_all p ys)
     go true e h ih =
         let r = ih h in
         (r.0, Memᴰ.tail r.1, r.2)
+
+pub all_true : {A : Type 0} (p : A → Bool) (xs : List A) → ((x : A) → Memᴰ x xs → p x ≡ true) → all p xs ≡ true
+all_true p [] h = refl
+all_true p (x ∷ xs) h = rw (h x (Memᴰ.head refl)) (all_true p xs (λ y m. h y (Memᴰ.tail m)))
 
 -- a number is in the list or absent
 pub find : (x : ℕ) (js : List ℕ) → Memᴰ x js ⊎ Absent x js
@@ -143,3 +147,16 @@ module _ {A A' B B' : Type 0} (g : A → A') (h : B → B') where
 pub flat_map_append : {A B : Type 0} (k : A → List B) (xs ys : List A) → flat_map k (xs ++ ys) ≡ flat_map k xs ++ flat_map k ys
 flat_map_append k [] ys = refl
 flat_map_append k (x ∷ xs) ys = ap (k x ++◌) (flat_map_append k xs ys) ∙ sym (append_assoc (k x) (flat_map k xs) (flat_map k ys))
+
+pub filter_map_append : {A B : Type 0} (k : A → Option B) (xs ys : List A) → filter_map k (xs ++ ys) ≡ filter_map k xs ++ filter_map k ys
+filter_map_append k [] ys = refl
+filter_map_append {B = B} k (x ∷ xs) ys = ap (push (k x)) (filter_map_append k xs ys) ∙ go (k x)
+  where
+    go : (o : Option B) → push o (filter_map k xs ++ filter_map k ys) ≡ push o (filter_map k xs) ++ filter_map k ys
+    go none = refl
+    go (some v) = refl
+
+pub enumerate_append : {A : Type 0} (k : ℕ) (xs ys : List A) → enumerate k (xs ++ ys) ≡ enumerate k xs ++ enumerate (length xs + k) ys
+enumerate_append k [] ys = ap (λ n. enumerate n ys) (omega arith)
+enumerate_append k (x ∷ xs) ys =
+    ap ((k, x) ∷◌) (enumerate_append (suc k) xs ys ∙ ap (λ n. enumerate (suc k) xs ++ enumerate n ys) (omega arith))

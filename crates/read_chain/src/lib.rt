@@ -91,7 +91,7 @@ pub fn find(
         return Some(1);
     }
     let m = edges[0] as usize;
-    let x = table::place_of::<{ chain::BUCKETS }>(edges, 5 * count + 1, m, from)?;
+    let x = table::place_of(edges, 5 * count + 1, chain::BUCKETS, m, from)?;
     ready(edges, count, x, to, work);
     let n = work[3 * x + 1] as usize;
     if n == 0 {

@@ -85,7 +85,7 @@ fn put_name(s: &[u8], out: &mut [u8], table: &mut [u16], at: usize, next: usize)
     ensures { Put s.now at table.old next out.old out.new table.new result }
 {
     let name = bundle::u16_at(s, at);
-    let number = table::enter::<{ bundle::BUCKETS }>(table, 0, next, name);
+    let number = table::enter(table, 0, bundle::BUCKETS, next, name);
     let bytes = (number as u16).to_le_bytes();
     out[at] = bytes[0];
     out[at + 1] = bytes[1];
@@ -99,8 +99,8 @@ fn scan(s: &[u8], out: &mut [u8], table: &mut [u16])
     requires whole { Whole body s.now × (buckets + 2 + length s.now ≤ length table.old) }
     ensures { out.new ≡ renumber_bytes body s.now ++ drop (length s.now) out.old }
 {
-    table::empty::<{ bundle::BUCKETS }>(table, 0);
-    table::enter::<{ bundle::BUCKETS }>(table, 0, 0, 0);
+    table::empty(table, 0, bundle::BUCKETS);
+    table::enter(table, 0, bundle::BUCKETS, 0, 0);
     let mut next = 1;
     let mut left = Parts(0, 0, 0);
     let mut at = 0;

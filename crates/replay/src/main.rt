@@ -2,6 +2,7 @@
 // with the stored answer.
 #![tactic(auto)]
 
+use refusal::Refusal;
 use std::io;
 use std::io::Read;
 
@@ -13,7 +14,7 @@ fn measured(bundle: &[u8], definition: usize, due: &[u8]) -> bool {
             Some(offsets) => stored::layout_is(placement.size, placement.alignment, offsets, due),
             None => false,
         },
-        Err(refusal) => stored::is_refusal(refusal, due),
+        Err(refusal) => stored::is_refusal(u8::from(refusal), due),
     }
 }
 
@@ -21,7 +22,7 @@ fn measured(bundle: &[u8], definition: usize, due: &[u8]) -> bool {
 fn valued(bundle: &[u8], definition: usize, due: &[u8]) -> bool {
     match size_value::size_value(bundle, definition) {
         Ok(value) => stored::value_is(value, due),
-        Err(refusal) => stored::is_refusal(refusal, due),
+        Err(refusal) => stored::is_refusal(u8::from(refusal), due),
     }
 }
 
@@ -33,7 +34,7 @@ fn followed(bundle: &[u8], from: u16, to: u16, due: &[u8]) -> bool {
             Some(names) => stored::chain_is(listed.followed as u64, names, due),
             None => false,
         },
-        Err(refusal) => stored::is_refusal(refusal, due),
+        Err(refusal) => stored::is_refusal(u8::from(refusal), due),
     }
 }
 
@@ -65,12 +66,20 @@ fn split_number(bytes: &[u8]) -> Option<(u16, &[u8])> {
     Some((bundle::u16_at(number, 0), behind))
 }
 
+// Whether what the call writes, or its refusal, is the answer.
+fn written<F: FnOnce(&mut [u8]) -> Result<usize, Refusal>>(call: F, due: &[u8]) -> bool
+    requires { F.IsAlwaysCallable call }
+{
+    let mut out = [0u8; 65536];
+    let answer = call(&mut out).map_err(u8::from);
+    stored::is_due(answer, &out, due)
+}
+
 // Whether the answer to the question is the one that is due. The number of a definition, and the names of a chain, stand before the bundle.
 fn answered(question: Question, asked: &[u8], due: &[u8]) -> Option<bool> {
-    let mut out = [0u8; 65536];
     Some(match question {
-        Question::Report => stored::is_due(report::report(asked, &mut out), &out, due),
-        Question::Renumber => stored::is_due(renumber::renumber(asked, &mut out), &out, due),
+        Question::Report => written(|out| report::report(asked, out), due),
+        Question::Renumber => written(|out| renumber::renumber(asked, out), due),
         Question::Size => {
             let (definition, bundle) = split_number(asked)?;
             measured(bundle, usize::from(definition), due)

@@ -1,4 +1,4 @@
-// The report of a bundle: its violations as bytes, or the number for which it is refused.
+// The report of a bundle: its violations as bytes, or why it is refused.
 #![tactic(auto)]
 
 ghost use Rattle.meaning.specs.Calls.{Call};

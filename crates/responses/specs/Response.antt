@@ -1,5 +1,5 @@
 -- What the program writes for an order and a bundle.
-use Rattle.std.specs.Prelude.{ℕ, ◌≤◌, List, [], ◌∷◌, ◌++◌, ◌≡◌, length, take, Result, Ok, Err}
+use Rattle.std.specs.Prelude.{ℕ, ◌≤◌, List, [], ◌∷◌, ◌++◌, ◌≡◌, length, take, Option, Some, None, Result, Ok, Err}
 use Rattle.decimal.specs.Decimal.{lines, signed_line}
 use Rattle.meaning.specs.Calls.{Answer, accepted, refused_with, Outcome, result, refusal, answer_of}
 use Rattle.meaning.specs.Due.{reporting, renumbering, chaining}
@@ -60,6 +60,11 @@ answer_to (Followed from to) s = lines_to (numbers_of (following from to s)) (ch
 answer_to (Size definition) s = size_to (sizing definition s) (placing definition s) 8192
 answer_to (Value definition) s = value_to (valuing definition s)
 answer_to Help s = []
+
+-- the same for what was asked, if it was: wrong arguments get nothing
+abbrev pub answer_for : Option Order → List ℕ → List ℕ
+answer_for None s = []
+answer_for (Some order) s = answer_to order s
 
 -- the text stands in the first r places
 pub record Holds (text places : List ℕ) (r : ℕ) : Type 0 where

@@ -8,7 +8,7 @@ ghost use Rattle.followed.specs.Followed.{following};
 ghost use Rattle.fixed_meaning.specs.Fixed.{sizing, placing};
 ghost use Rattle.fixed_meaning.specs.Valuing.{valuing};
 ghost use Rattle.refusal.specs.Numbers.{number};
-ghost use Rattle.responses.specs.Response.{refusal_bytes, numbers_of, lines_to, size_to, value_to, answer_to, Holds, Gives};
+ghost use Rattle.responses.specs.Response.{refusal_bytes, numbers_of, lines_to, size_to, value_to, answer_to, answer_for, Holds, Gives};
 
 use refusal::Refusal;
 use words::Order;
@@ -90,11 +90,14 @@ fn respond(order: Order, bundle: &[u8], out: &mut [u8]) -> Result<usize, Refusal
     }
 }
 
-// The same, or the refusal, as bytes in the first places of `out`.
-pub fn answer(order: Order, bundle: &[u8], out: &mut [u8]) -> usize
+// The same, or the refusal, as bytes in the first places of `out`. Nothing where nothing was asked.
+pub fn answer(order: Option<Order>, bundle: &[u8], out: &mut [u8]) -> usize
     requires { 90154 ≤ length out.old }
-    ensures { Holds (answer_to order bundle.now) out.new result }
+    ensures { Holds (answer_for order bundle.now) out.new result }
 {
+    let Some(order) = order else {
+        return 0;
+    };
     match respond(order, bundle, out) {
         Ok(n) => n,
         Err(refusal) => put_refusal(refusal, out),

@@ -100,7 +100,7 @@ pub fn begin(edges: &[u16], count: usize, to: u16, work: &mut [u16])
     work[0] = 1;
     work[entries] = 0;
     work[6 * count + 2] = 0;
-    if let Some(b) = table::place_of::<{ chain::BUCKETS }>(edges, 5 * count + 1, m, to) {
+    if let Some(b) = table::place_of(edges, 5 * count + 1, chain::BUCKETS, m, to) {
         work[3 * b + 1] = 1;
         work[2] = b as u16;
         work[entries] = 1;

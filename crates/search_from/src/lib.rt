@@ -147,14 +147,14 @@ pub fn find<const NUMBERS: usize>(
     }
     let m = edges[0] as usize;
     let names = 5 * count + 1;
-    let Some(x) = table::place_of::<{ chain::BUCKETS }>(edges, names, m, from) else {
+    let Some(x) = table::place_of(edges, names, chain::BUCKETS, m, from) else {
         return Ok(Listed {
             names: 0,
             followed: 1,
         });
     };
     // A name that no edge has gets the number behind the last, so that the search needs no second test.
-    let y = table::place_of::<{ chain::BUCKETS }>(edges, names, m, to).unwrap_or(m);
+    let y = table::place_of(edges, names, chain::BUCKETS, m, to).unwrap_or(m);
     let nothing = Place {
         names: 0,
         before: 0,

@@ -1,7 +1,5 @@
 -- What it means that an answer is the stored one.
 use Rattle.std.specs.Prelude.{ℕ, ◌-◌, ◌≤◌, Bool, true, false, List, [], ◌∷◌, ◌++◌, ◌≡◌, ℤ, pos, negsuc, length, take, Result, Ok, Err}
-use Rattle.refusal.specs.declared.Refusal.{Refusal}
-use Rattle.refusal.specs.Numbers.{number}
 use Rattle.names.specs.Documents.{bytes}
 use Rattle.meaning.specs.Encoding.{number_items}
 use Rattle.meaning.specs.Lists.{flat_map}
@@ -42,9 +40,9 @@ abbrev pub refusal_bytes : ℕ → List ℕ
 refusal_bytes k = 0x7E ∷ k ∷ []
 
 -- the bytes are the answer's: the result in the first places of `out`, or 7E and the refusal
-unfoldable pub IsDue : Result ℕ Refusal → List ℕ → List ℕ → Type 0
+unfoldable pub IsDue : Result ℕ ℕ → List ℕ → List ℕ → Type 0
 IsDue (Ok n) out due = (n ≤ length out) × (due ≡ take n out)
-IsDue (Err r) out due = due ≡ refusal_bytes (number r)
+IsDue (Err k) out due = due ≡ refusal_bytes k
 
 -- what is due in the first m bytes is due in the part of so many, where they are there
 pub record Cut : Type 0 where

@@ -2,22 +2,20 @@
 #![tactic(auto)]
 
 ghost use Rattle.std.specs.Prelude.{◌≡◌, ◌≤◌, ◌++◌, length, map};
-ghost use Rattle.refusal.specs.Numbers.{number};
 ghost use Rattle.stored.specs.Examples.{Examples};
 ghost use Rattle.stored.specs.Stored.{Whether, Cut, number_bytes, numbers_bytes, layout_bytes, chain_bytes, bits_of, refusal_bytes, IsDue};
 
 use number::Number;
-use refusal::Refusal;
 
-// Whether the bytes are 7E and this refusal.
-pub fn is_refusal(refusal: Refusal, due: &[u8]) -> bool
-    ensures { Whether result (due.now ≡ refusal_bytes (number refusal)) }
+// Whether the bytes are 7E and the number of this refusal. The number is any byte: what is stored may have one that no refusal has.
+pub fn is_refusal(number: u8, due: &[u8]) -> bool
+    ensures { Whether result (due.now ≡ refusal_bytes number) }
 {
-    due == [0x7E, u8::from(refusal)].as_slice()
+    due == [0x7E, number].as_slice()
 }
 
-// Whether the answer is the one in the bytes: the result in the first places of `out`, or 7E and the refusal.
-pub fn is_due(answer: Result<usize, Refusal>, out: &[u8], due: &[u8]) -> bool
+// Whether the answer is the one in the bytes: the result in the first places of `out`, or 7E and the number of the refusal.
+pub fn is_due(answer: Result<usize, u8>, out: &[u8], due: &[u8]) -> bool
     ensures { Whether result (IsDue answer out.now due.now) }
 {
     match answer {
@@ -25,7 +23,7 @@ pub fn is_due(answer: Result<usize, Refusal>, out: &[u8], due: &[u8]) -> bool
             Some(bytes) => bytes == due,
             None => false,
         },
-        Err(refusal) => is_refusal(refusal, due),
+        Err(number) => is_refusal(number, due),
     }
 }
 

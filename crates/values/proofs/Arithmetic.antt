@@ -1,7 +1,7 @@
 -- What the checked methods give, as values, and the test of a divisor.
 use Prim.Native.Nat.{ℕ, suc, zero, ◌<◌}
 use native.Mathlib.Omega.{arith}
-use mathlib.Core.Bool.{Bool, true, false}
+use mathlib.Core.Bool.{Bool, true, false, true≢false}
 use mathlib.Core.Path.{◌≡◌, refl, sym, ap, ◌∙◌}
 use lib.Dec.{leb}
 use lib.IntN.{ℤ, pos, negsuc}
@@ -12,10 +12,11 @@ use mir.ValLaws.{to_z-of_z}
 use borrow.Author.Tests.{leb-true, le-leb, ne_eqb}
 use Rattle.std.specs.Int.{CanDivide}
 use Rattle.std.specs.Option.{SomeIff, ok_or}
-use Rattle.std.specs.Prelude.{Option, Some, None, Result, Ok, Err}
+use Rattle.std.specs.Prelude.{Option, Some, None, Result, Ok, Err, IsErrAnd, is_ok}
 use Rattle.std.specs.Result.{OkIff, result_or}
 use Rattle.fixed_meaning.specs.Value.{valued, unvalued, ranged, eq_z, divided}
-use Rattle.refusal.specs.declared.Refusal.TheVariants.{OutOfRange, ZeroDivisor}
+use Rattle.refusal.specs.declared.Refusal.{Refusal}
+use Rattle.refusal.specs.declared.Refusal.TheVariants.{OutOfRange, ZeroDivisor, NotCovered}
 use Rattle.values.specs.Meant.{value_meant}
 
 -- what comes back from the bits of a number
@@ -52,6 +53,15 @@ pub converted : {E : Type 0} (r : Result ℤ E) (z : ℤ) → OkIff r (SFits w64
 unfolding value_meant
 converted (Ok x) z s = ap valued s.1 ∙ fits_ranged z s.0
 converted (Err e) z s = out_ranged z s
+
+-- a kind that has none is refused with 15
+pub uncovered : {A : Type 0} (o : Option A) (x : Result ℤ Refusal) (e : Refusal) → Err e ≡ ok_or o NotCovered → IsErrAnd x (λ d. d ≡ e) → (o ≡ None) × (value_meant x ≡ unvalued 15)
+unfolding value_meant
+uncovered None (Err d) e h i =
+    let k : e ≡ NotCovered = cc in
+    (refl, rw (i, k))
+uncovered None (Ok x) e h i = absurd i
+uncovered (Some a) x e h i = absurd (true≢false (sym (ap is_ok h)))
 
 -- a divisor that is 0, and one that is not
 bits_are : (z y : ℤ) (n : ℕ) → SFits w64 z → of_z w64 z ≡ n → to_z w64 n ≡ y → z ≡ y

@@ -53,8 +53,8 @@ pub fn literal_of(kind: u8) -> Option<Literal>
     }
 }
 
-// The value of a literal.
-pub fn literal_value(literal: Literal, n: u64) -> Result<i64, Refusal>
+// The value of a literal, read in this way.
+pub fn read_literal(literal: Literal, n: u64) -> Result<i64, Refusal>
     ensures { value_meant result ≡ literal_value (literal_kind literal) n }
 {
     match literal {
@@ -64,6 +64,14 @@ pub fn literal_value(literal: Literal, n: u64) -> Result<i64, Refusal>
         Literal::Signed16 => complement_of(i64::from(i16::MIN), n),
         Literal::Signed8 => complement_of(i64::from(i8::MIN), n),
     }
+}
+
+// The value of a literal of this kind: of any byte, since a kind that is no literal's is refused.
+pub fn literal_value(kind: u8, n: u64) -> Result<i64, Refusal>
+    ensures { value_meant result ≡ literal_value kind n }
+{
+    let literal = literal_of(kind).ok_or(Refusal::NotCovered)?;
+    read_literal(literal, n)
 }
 
 fn divide(l: i64, r: i64) -> Result<i64, Refusal>
@@ -121,8 +129,8 @@ pub fn operation_of(kind: u8) -> Option<Operation>
     }
 }
 
-// The value of a binary expression, by the values of its sides.
-pub fn operate(operation: Operation, l: i64, r: i64) -> Result<i64, Refusal>
+// What an operation makes of two values.
+pub fn apply(operation: Operation, l: i64, r: i64) -> Result<i64, Refusal>
     ensures { value_meant result ≡ operated (operation_kind operation) (valued l) (valued r) }
 {
     match operation {
@@ -138,4 +146,12 @@ pub fn operate(operation: Operation, l: i64, r: i64) -> Result<i64, Refusal>
         Operation::AtMost => Ok(i64::from(l <= r)),
         Operation::AtLeast => Ok(i64::from(l >= r)),
     }
+}
+
+// The value of a binary expression of this kind, by the values of its sides: of any byte, since a kind that is not covered is refused.
+pub fn operate(kind: u8, l: i64, r: i64) -> Result<i64, Refusal>
+    ensures { value_meant result ≡ operated kind (valued l) (valued r) }
+{
+    let operation = operation_of(kind).ok_or(Refusal::NotCovered)?;
+    apply(operation, l, r)
 }

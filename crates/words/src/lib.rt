@@ -3,7 +3,7 @@
 
 ghost use Rattle.std.specs.Prelude.{List, [], ◌∷◌, ℕ, ◌≡◌, Some};
 ghost use Rattle.decimal.specs.Decimal.{Says};
-ghost use Rattle.words.specs.Running.{reads_bundle, message_of};
+ghost use Rattle.words.specs.Running.{reads_for, said};
 ghost use Rattle.words.specs.Words.{IsWord, Asks, AsksOnly, words_of};
 
 // A first word.
@@ -106,17 +106,20 @@ pub enum Message {
     Unwritten,
 }
 
-// Whether an order is for a bundle.
-pub fn reads_bundle(order: Order) -> bool
-    ensures { result ≡ reads_bundle order }
+// Whether an order is for a bundle. Wrong arguments are no order.
+pub fn reads_bundle(order: Option<Order>) -> bool
+    ensures { result ≡ reads_for order }
 {
-    !matches!(order, Order::Help)
+    !matches!(order, None | Some(Order::Help))
 }
 
 // What is said, if something is, where as many bytes were read, or none where reading failed, and all of the output was written or not.
-pub fn message_of(read: Option<usize>, written: bool) -> Option<Message>
-    ensures { result ≡ message_of read written }
+pub fn message_of(order: Option<Order>, read: Option<usize>, written: bool) -> Option<Message>
+    ensures { result ≡ said order read written }
 {
+    if order.is_none() {
+        return Some(Message::Arguments);
+    }
     match (read, written) {
         (None, _) => Some(Message::Unread),
         (Some(_), true) => None,

@@ -15,34 +15,34 @@ pub returns-then-s-next : goal.returns-then-s-next
 returns-then-s-next t c = reading_short c.loop-level.invariant c.loop-level-test.true c.if-s-next.true
 
 pub returns-then-s-next-2 : goal.returns-then-s-next-2
-returns-then-s-next-2 t c = body_short (record { reading = c.loop-level.invariant; deep = c.loop-level-test.true; there = c.if-s-next.false; operands = c.operands_of.ensures ∙ ap operands_of c.form_of.ensures }) _ (c.in_ok-operands.was ∙ ap Ok c.in-None.is) (omega arith)
+returns-then-s-next-2 t c = body_short (record { reading = c.loop-level.invariant; deep = c.loop-level-test.true; there = c.if-s-next.false; operands = c.operands_of.ensures ∙ ap operands_of c.form_of.ensures.form }) _ (c.in_ok-operands.was ∙ ap Ok c.in-None.is) (omega arith)
 
 pub returns-then-n-eq0 : goal.returns-then-n-eq0
-returns-then-n-eq0 t c = body_last (record { reading = c.loop-level.invariant; deep = c.loop-level-test.true; there = c.if-s-next.false; operands = c.operands_of.ensures ∙ ap operands_of c.form_of.ensures }) _ (c.in_ok-operands.was ∙ ap Ok c.in-None.is) (omega arith) c.if-n-eq0.true
+returns-then-n-eq0 t c = body_last (record { reading = c.loop-level.invariant; deep = c.loop-level-test.true; there = c.if-s-next.false; operands = c.operands_of.ensures ∙ ap operands_of c.form_of.ensures.form }) _ (c.in_ok-operands.was ∙ ap Ok c.in-None.is) (omega arith) c.if-n-eq0.true
 
 pub bounds-due-n : goal.bounds-due-n
 bounds-due-n t c = omega (arith, c.loop-level.invariant.room)
 
 pub loop-level-preserved-in-None : goal.loop-level-preserved-in-None
-loop-level-preserved-in-None t c = body_next (record { reading = c.loop-level.invariant; deep = c.loop-level-test.true; there = c.if-s-next.false; operands = c.operands_of.ensures ∙ ap operands_of c.form_of.ensures }) _ (c.in_ok-operands.was ∙ ap Ok c.in-None.is) (omega arith) c.if-n-eq0.false
+loop-level-preserved-in-None t c = body_next (record { reading = c.loop-level.invariant; deep = c.loop-level-test.true; there = c.if-s-next.false; operands = c.operands_of.ensures ∙ ap operands_of c.form_of.ensures.form }) _ (c.in_ok-operands.was ∙ ap Ok c.in-None.is) (omega arith) c.if-n-eq0.false
 
 pub loop-level-preserved-in-One : goal.loop-level-preserved-in-One
-loop-level-preserved-in-One t c = reading_one (record { reading = c.loop-level.invariant; deep = c.loop-level-test.true; there = c.if-s-next.false; operands = c.operands_of.ensures ∙ ap operands_of c.form_of.ensures }) (c.in_ok-operands.was ∙ ap Ok c.in-One.is)
+loop-level-preserved-in-One t c = reading_one (record { reading = c.loop-level.invariant; deep = c.loop-level-test.true; there = c.if-s-next.false; operands = c.operands_of.ensures ∙ ap operands_of c.form_of.ensures.form }) (c.in_ok-operands.was ∙ ap Ok c.in-One.is)
 
 pub loop-level-preserved-then-level-n : goal.loop-level-preserved-then-level-n
-loop-level-preserved-then-level-n t c = reading_two (record { reading = c.loop-level.invariant; deep = c.loop-level-test.true; there = c.if-s-next.false; operands = c.operands_of.ensures ∙ ap operands_of c.form_of.ensures }) (c.in_ok-operands.was ∙ ap Ok c.in-Two.is) (omega arith) (omega arith)
+loop-level-preserved-then-level-n t c = reading_two (record { reading = c.loop-level.invariant; deep = c.loop-level-test.true; there = c.if-s-next.false; operands = c.operands_of.ensures ∙ ap operands_of c.form_of.ensures.form }) (c.in_ok-operands.was ∙ ap Ok c.in-Two.is) (omega arith) (omega arith)
 
 pub loop-level-smaller : goal.loop-level-smaller
-loop-level-smaller t c = omega (arith, left_on (record { reading = c.loop-level.invariant; deep = c.loop-level-test.true; there = c.if-s-next.false; operands = c.operands_of.ensures ∙ ap operands_of c.form_of.ensures }) (c.in_ok-operands.was ∙ ap Ok c.in-Two.is) _ (sym c.in_ok-next-in-Two.was ∙ c.expr_at.ensures))
+loop-level-smaller t c = omega (arith, left_on (record { reading = c.loop-level.invariant; deep = c.loop-level-test.true; there = c.if-s-next.false; operands = c.operands_of.ensures ∙ ap operands_of c.form_of.ensures.form }) (c.in_ok-operands.was ∙ ap Ok c.in-Two.is) _ (sym c.in_ok-next-in-Two.was ∙ c.expr_at.ensures))
 
 pub loop-level-preserved : goal.loop-level-preserved
-loop-level-preserved t c = left_ends (record { reading = c.loop-level.invariant; deep = c.loop-level-test.true; there = c.if-s-next.false; operands = c.operands_of.ensures ∙ ap operands_of c.form_of.ensures }) (c.in_ok-operands.was ∙ ap Ok c.in-Two.is) _ (sym c.in_ok-next-in-Two.was ∙ c.expr_at.ensures)
+loop-level-preserved t c = left_ends (record { reading = c.loop-level.invariant; deep = c.loop-level-test.true; there = c.if-s-next.false; operands = c.operands_of.ensures ∙ ap operands_of c.form_of.ensures.form }) (c.in_ok-operands.was ∙ ap Ok c.in-Two.is) _ (sym c.in_ok-next-in-Two.was ∙ c.expr_at.ensures)
 
 pub returns-in_err-next-in-Two : goal.returns-in_err-next-in-Two
-returns-in_err-next-in-Two t c = handed_on _ c.from_residual-in_err-next-in-Two.ensures.1 ∙ left_refused (record { reading = c.loop-level.invariant; deep = c.loop-level-test.true; there = c.if-s-next.false; operands = c.operands_of.ensures ∙ ap operands_of c.form_of.ensures }) (c.in_ok-operands.was ∙ ap Ok c.in-Two.is) _ (sym c.in_err-next-in-Two.was ∙ c.expr_at.ensures)
+returns-in_err-next-in-Two t c = handed_on _ c.from_residual-in_err-next-in-Two.ensures.1 ∙ left_refused (record { reading = c.loop-level.invariant; deep = c.loop-level-test.true; there = c.if-s-next.false; operands = c.operands_of.ensures ∙ ap operands_of c.form_of.ensures.form }) (c.in_ok-operands.was ∙ ap Ok c.in-Two.is) _ (sym c.in_err-next-in-Two.was ∙ c.expr_at.ensures)
 
 pub returns-in_err-operands : goal.returns-in_err-operands
-returns-in_err-operands t c = handed_on _ c.from_residual.ensures.1 ∙ reading_other (record { reading = c.loop-level.invariant; deep = c.loop-level-test.true; there = c.if-s-next.false; operands = c.operands_of.ensures ∙ ap operands_of c.form_of.ensures }) _ c.in_err-operands.was
+returns-in_err-operands t c = handed_on _ c.from_residual.ensures.1 ∙ reading_other (record { reading = c.loop-level.invariant; deep = c.loop-level-test.true; there = c.if-s-next.false; operands = c.operands_of.ensures ∙ ap operands_of c.form_of.ensures.form }) _ c.in_err-operands.was
 
 pub returns : goal.returns
 returns t c = reading_deep c.loop-level.invariant c.loop-level-test.false

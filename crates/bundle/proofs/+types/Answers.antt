@@ -61,25 +61,25 @@ pub type_at-returns-then-s-at : goal.type_at-returns-then-s-at
 type_at-returns-then-s-at t c = rw (type_short _ _ _ c.if-depth-eq0.false c.if-s-at.true)
 
 pub type_at-returns-in_default : goal.type_at-returns-in_default
-type_at-returns-in_default t c = sym (type_other (record { deep = c.if-depth-eq0.false; there = c.if-s-at.false; form = c.form_of-form.ensures }) (not_type _ c.in_default.not-OfType))
+type_at-returns-in_default t c = sym (type_other (record { deep = c.if-depth-eq0.false; there = c.if-s-at.false; form = c.form_of-form.ensures.form }) (not_type _ c.in_default.not-OfType))
 
 pub type_at-returns-in-Primitive : goal.type_at-returns-in-Primitive
-type_at-returns-in-Primitive t c = sym (primitive_ends (record { deep = c.if-depth-eq0.false; there = c.if-s-at.false; form = c.form_of-form.ensures }) (primitive_meant (c.in-OfType.is ∙ ap OfType c.in-Primitive.is)))
+type_at-returns-in-Primitive t c = sym (primitive_ends (record { deep = c.if-depth-eq0.false; there = c.if-s-at.false; form = c.form_of-form.ensures.form }) (primitive_meant (c.in-OfType.is ∙ ap OfType c.in-Primitive.is)))
 
 pub type_at-returns-in-TypeRef : goal.type_at-returns-in-TypeRef
-type_at-returns-in-TypeRef t c = c.skip_bytes.ensures ∙ sym (type_ref_ends (record { deep = c.if-depth-eq0.false; there = c.if-s-at.false; form = c.form_of-form.ensures }) (type_ref_meant (c.in-OfType.is ∙ ap OfType c.in-TypeRef.is)))
+type_at-returns-in-TypeRef t c = c.skip_bytes.ensures ∙ sym (type_ref_ends (record { deep = c.if-depth-eq0.false; there = c.if-s-at.false; form = c.form_of-form.ensures.form }) (type_ref_meant (c.in-OfType.is ∙ ap OfType c.in-TypeRef.is)))
 
 pub type_at-returns-in-Struct : goal.type_at-returns-in-Struct
-type_at-returns-in-Struct t c = c.group_at.ensures ∙ sym (struct_ends (record { deep = c.if-depth-eq0.false; there = c.if-s-at.false; form = c.form_of-form.ensures }) (struct_meant (c.in-OfType.is ∙ ap OfType c.in-Struct.is)))
+type_at-returns-in-Struct t c = c.group_at.ensures ∙ sym (struct_ends (record { deep = c.if-depth-eq0.false; there = c.if-s-at.false; form = c.form_of-form.ensures.form }) (struct_meant (c.in-OfType.is ∙ ap OfType c.in-Struct.is)))
 
 pub type_at-returns-in-Union : goal.type_at-returns-in-Union
-type_at-returns-in-Union t c = c.group_at-in-Union.ensures ∙ sym (union_ends (record { deep = c.if-depth-eq0.false; there = c.if-s-at.false; form = c.form_of-form.ensures }) (union_meant (c.in-OfType.is ∙ ap OfType c.in-Union.is)))
+type_at-returns-in-Union t c = c.group_at-in-Union.ensures ∙ sym (union_ends (record { deep = c.if-depth-eq0.false; there = c.if-s-at.false; form = c.form_of-form.ensures.form }) (union_meant (c.in-OfType.is ∙ ap OfType c.in-Union.is)))
 
 pub type_at-returns-in-Enum : goal.type_at-returns-in-Enum
-type_at-returns-in-Enum t c = c.enum_at.ensures ∙ sym (enum_ends (record { deep = c.if-depth-eq0.false; there = c.if-s-at.false; form = c.form_of-form.ensures }) (enum_meant (c.in-OfType.is ∙ ap OfType c.in-Enum.is)))
+type_at-returns-in-Enum t c = c.enum_at.ensures ∙ sym (enum_ends (record { deep = c.if-depth-eq0.false; there = c.if-s-at.false; form = c.form_of-form.ensures.form }) (enum_meant (c.in-OfType.is ∙ ap OfType c.in-Enum.is)))
 
 pub type_at-returns-in-Array : goal.type_at-returns-in-Array
-type_at-returns-in-Array t c = c.array_at.ensures ∙ sym (array_ends (record { deep = c.if-depth-eq0.false; there = c.if-s-at.false; form = c.form_of-form.ensures }) (array_meant (c.in-OfType.is ∙ ap OfType c.in-Array.is)))
+type_at-returns-in-Array t c = c.array_at.ensures ∙ sym (array_ends (record { deep = c.if-depth-eq0.false; there = c.if-s-at.false; form = c.form_of-form.ensures.form }) (array_meant (c.in-OfType.is ∙ ap OfType c.in-Array.is)))
 
 pub type_at-returns-in-SizeUnion : goal.type_at-returns-in-SizeUnion
-type_at-returns-in-SizeUnion t c = c.group_at-in-SizeUnion.ensures ∙ sym (size_union_ends (record { deep = c.if-depth-eq0.false; there = c.if-s-at.false; form = c.form_of-form.ensures }) (size_union_meant (c.in-OfType.is ∙ ap OfType c.in-SizeUnion.is)))
+type_at-returns-in-SizeUnion t c = c.group_at-in-SizeUnion.ensures ∙ sym (size_union_ends (record { deep = c.if-depth-eq0.false; there = c.if-s-at.false; form = c.form_of-form.ensures.form }) (size_union_meant (c.in-OfType.is ∙ ap OfType c.in-SizeUnion.is)))

@@ -13,103 +13,103 @@ use Rattle.bundle.proofs.form_of.Goals as goal
 pub overflow_cast-result : goal.overflow_cast-result
 overflow_cast-result c = index_fits (omega arith)
 
-pub returns-in-64 : goal.returns-in-64
+pub returns-in-64-clause-form : goal.returns-in-64-clause-form
 unfolding form_meant type_form_meant
-returns-in-64 c = sym (hit kinds 1 7 _ tt (lit< tt) (omega arith) (omega arith))
+returns-in-64-clause-form c = sym (hit kinds 1 7 _ tt (lit< tt) (omega arith) (omega arith))
 
-pub returns-in-65 : goal.returns-in-65
+pub returns-in-65-clause-form : goal.returns-in-65-clause-form
 unfolding form_meant type_form_meant
-returns-in-65 c = sym (hit kinds 1 8 _ tt (lit< tt) (omega arith) (omega arith))
+returns-in-65-clause-form c = sym (hit kinds 1 8 _ tt (lit< tt) (omega arith) (omega arith))
 
-pub returns-in-66 : goal.returns-in-66
+pub returns-in-66-clause-form : goal.returns-in-66-clause-form
 unfolding form_meant type_form_meant
-returns-in-66 c = sym (hit kinds 1 9 _ tt (lit< tt) (omega arith) (omega arith))
+returns-in-66-clause-form c = sym (hit kinds 1 9 _ tt (lit< tt) (omega arith) (omega arith))
 
-pub returns-in-67 : goal.returns-in-67
+pub returns-in-67-clause-form : goal.returns-in-67-clause-form
 unfolding form_meant type_form_meant
-returns-in-67 c = sym (hit kinds 1 10 _ tt (lit< tt) (omega arith) (omega arith))
+returns-in-67-clause-form c = sym (hit kinds 1 10 _ tt (lit< tt) (omega arith) (omega arith))
 
-pub returns-in-68 : goal.returns-in-68
+pub returns-in-68-clause-form : goal.returns-in-68-clause-form
 unfolding form_meant type_form_meant
-returns-in-68 c = sym (hit kinds 1 11 _ tt (lit< tt) (omega arith) (omega arith))
+returns-in-68-clause-form c = sym (hit kinds 1 11 _ tt (lit< tt) (omega arith) (omega arith))
 
-pub returns-in-69 : goal.returns-in-69
+pub returns-in-69-clause-form : goal.returns-in-69-clause-form
 unfolding form_meant type_form_meant
-returns-in-69 c = sym (hit kinds 1 12 _ tt (lit< tt) (omega arith) (omega arith))
+returns-in-69-clause-form c = sym (hit kinds 1 12 _ tt (lit< tt) (omega arith) (omega arith))
 
-pub returns-in-1-to-8 : goal.returns-in-1-to-8
+pub returns-in-1-to-8-clause-form : goal.returns-in-1-to-8-clause-form
 unfolding form_meant expr_form_meant
-returns-in-1-to-8 c = sym (hit kinds 1 0 _ tt (lit< tt) (omega arith) (omega arith))
+returns-in-1-to-8-clause-form c = sym (hit kinds 1 0 _ tt (lit< tt) (omega arith) (omega arith))
 
-pub returns-in-9-to-12 : goal.returns-in-9-to-12
+pub returns-in-9-to-12-clause-form : goal.returns-in-9-to-12-clause-form
 unfolding form_meant expr_form_meant
-returns-in-9-to-12 c = sym (hit kinds 1 1 _ tt (lit< tt) (omega arith) (omega arith))
+returns-in-9-to-12-clause-form c = sym (hit kinds 1 1 _ tt (lit< tt) (omega arith) (omega arith))
 
-pub returns-then-kind-eq13 : goal.returns-then-kind-eq13
+pub returns-then-kind-eq13-clause-form : goal.returns-then-kind-eq13-clause-form
 unfolding form_meant expr_form_meant
-returns-then-kind-eq13 c = sym (hit kinds 1 2 _ tt (lit< tt) (omega arith) (omega arith))
+returns-then-kind-eq13-clause-form c = sym (hit kinds 1 2 _ tt (lit< tt) (omega arith) (omega arith))
 
-pub returns-else-kind-eq13 : goal.returns-else-kind-eq13
+pub returns-else-kind-eq13-clause-form : goal.returns-else-kind-eq13-clause-form
 unfolding form_meant expr_form_meant
-returns-else-kind-eq13 c = sym (hit kinds 1 3 _ tt (lit< tt) (omega arith) (omega arith))
+returns-else-kind-eq13-clause-form c = sym (hit kinds 1 3 _ tt (lit< tt) (omega arith) (omega arith))
 
-pub returns-in-16-to-35 : goal.returns-in-16-to-35
+pub returns-in-16-to-35-clause-form : goal.returns-in-16-to-35-clause-form
 unfolding form_meant expr_form_meant
-returns-in-16-to-35 c = sym (hit kinds 1 4 _ tt (lit< tt) (omega arith) (omega arith))
+returns-in-16-to-35-clause-form c = sym (hit kinds 1 4 _ tt (lit< tt) (omega arith) (omega arith))
 
-pub returns-in-36-to-39 : goal.returns-in-36-to-39
+pub returns-in-36-to-39-clause-form : goal.returns-in-36-to-39-clause-form
 unfolding form_meant expr_form_meant
-returns-in-36-to-39 c = sym (hit kinds 1 5 _ tt (lit< tt) (omega arith) (omega arith))
+returns-in-36-to-39-clause-form c = sym (hit kinds 1 5 _ tt (lit< tt) (omega arith) (omega arith))
 
-pub returns-in-48-to-59 : goal.returns-in-48-to-59
+pub returns-in-48-to-59-clause-form : goal.returns-in-48-to-59-clause-form
 unfolding form_meant type_form_meant
-returns-in-48-to-59 c = sym (hit kinds 1 6 _ tt (lit< tt) (omega arith) (omega arith))
+returns-in-48-to-59-clause-form c = sym (hit kinds 1 6 _ tt (lit< tt) (omega arith) (omega arith))
 
-pub returns-in-80-to-81 : goal.returns-in-80-to-81
+pub returns-in-80-to-81-clause-form : goal.returns-in-80-to-81-clause-form
 unfolding form_meant
-returns-in-80-to-81 c = kind_member _ c.bare_member.ensures
+returns-in-80-to-81-clause-form c = kind_member _ c.bare_member.ensures
 
-pub returns-in-82-to-83 : goal.returns-in-82-to-83
+pub returns-in-82-to-83-clause-form : goal.returns-in-82-to-83-clause-form
 unfolding form_meant
-returns-in-82-to-83 c = kind_member _ c.valued_member.ensures
+returns-in-82-to-83-clause-form c = kind_member _ c.valued_member.ensures
 
-pub returns-then-kind-eq96 : goal.returns-then-kind-eq96
+pub returns-then-kind-eq96-clause-form : goal.returns-then-kind-eq96-clause-form
 unfolding form_meant
-returns-then-kind-eq96 c = sym (hit kinds 1 15 _ tt (lit< tt) (omega arith) (omega arith))
+returns-then-kind-eq96-clause-form c = sym (hit kinds 1 15 _ tt (lit< tt) (omega arith) (omega arith))
 
-pub returns-then-kind-eq97 : goal.returns-then-kind-eq97
+pub returns-then-kind-eq97-clause-form : goal.returns-then-kind-eq97-clause-form
 unfolding form_meant
-returns-then-kind-eq97 c = sym (hit kinds 1 16 _ tt (lit< tt) (omega arith) (omega arith))
+returns-then-kind-eq97-clause-form c = sym (hit kinds 1 16 _ tt (lit< tt) (omega arith) (omega arith))
 
-pub returns-else-kind-eq97 : goal.returns-else-kind-eq97
+pub returns-else-kind-eq97-clause-form : goal.returns-else-kind-eq97-clause-form
 unfolding form_meant
-returns-else-kind-eq97 c = sym (hit kinds 1 17 _ tt (lit< tt) (omega arith) (omega arith))
+returns-else-kind-eq97-clause-form c = sym (hit kinds 1 17 _ tt (lit< tt) (omega arith) (omega arith))
 
-pub returns-in_default : goal.returns-in_default
+pub returns-in_default-clause-form : goal.returns-in_default-clause-form
 unfolding form_meant
-returns-in_default c = sym (below kinds 1 _ tt (omega arith))
+returns-in_default-clause-form c = sym (below kinds 1 _ tt (omega arith))
 
-pub returns-in_default-2 : goal.returns-in_default-2
+pub returns-in_default-2-clause-form : goal.returns-in_default-2-clause-form
 unfolding form_meant
-returns-in_default-2 c = sym (gap kinds 1 3 16 _ tt (lit< tt) tt (omega arith) (omega arith))
+returns-in_default-2-clause-form c = sym (gap kinds 1 3 16 _ tt (lit< tt) tt (omega arith) (omega arith))
 
-pub returns-in_default-3 : goal.returns-in_default-3
+pub returns-in_default-3-clause-form : goal.returns-in_default-3-clause-form
 unfolding form_meant
-returns-in_default-3 c = sym (gap kinds 1 5 48 _ tt (lit< tt) tt (omega arith) (omega arith))
+returns-in_default-3-clause-form c = sym (gap kinds 1 5 48 _ tt (lit< tt) tt (omega arith) (omega arith))
 
-pub returns-in_default-4 : goal.returns-in_default-4
+pub returns-in_default-4-clause-form : goal.returns-in_default-4-clause-form
 unfolding form_meant
-returns-in_default-4 c =
+returns-in_default-4-clause-form c =
     sym (⊎_elim (λ p. gap kinds 1 6 64 _ tt (lit< tt) tt (omega arith) p)
     (λ p. gap kinds 1 12 80 _ tt (lit< tt) tt (omega (arith, p)) (omega arith)) (side _ 0x40))
 
-pub returns-in_default-5 : goal.returns-in_default-5
+pub returns-in_default-5-clause-form : goal.returns-in_default-5-clause-form
 unfolding form_meant
-returns-in_default-5 c = sym (gap kinds 1 14 96 _ tt (lit< tt) tt (omega arith) (omega arith))
+returns-in_default-5-clause-form c = sym (gap kinds 1 14 96 _ tt (lit< tt) tt (omega arith) (omega arith))
 
-pub returns-in_default-6 : goal.returns-in_default-6
+pub returns-in_default-6-clause-form : goal.returns-in_default-6-clause-form
 unfolding form_meant
-returns-in_default-6 c = sym (gap kinds 1 17 256 _ tt (lit< tt) tt (omega arith) (omega arith))
+returns-in_default-6-clause-form c = sym (gap kinds 1 17 256 _ tt (lit< tt) tt (omega arith) (omega arith))
 
 pub bounds-kind : goal.bounds-kind
 bounds-kind c = index_below (omega arith)

@@ -11,11 +11,11 @@ use Rattle.bundle.proofs.Parts.{type_meant}
 use Rattle.bundle.proofs.type_is.Goals as goal
 
 pub returns-in_default : goal.returns-in_default
-returns-in_default c = (λ e. absurd (false≢true e), λ p. absurd (not_type _ c.in_default.not-OfType _ (c.form_of.ensures ∙ p)))
+returns-in_default c = (λ e. absurd (false≢true e), λ p. absurd (not_type _ c.in_default.not-OfType _ (c.form_of.ensures.form ∙ p)))
 
 pub returns : goal.returns
 returns c =
-    let own = sym (type_meant c.in-OfType.is) ∙ c.form_of.ensures in (
+    let own = sym (type_meant c.in-OfType.is) ∙ c.form_of.ensures.form in (
       λ e. sym own ∙ ap (λ t. OfType (type_form_meant t)) (same_true the_type (search rules) _ _ (sym c.eq.ensures ∙ e)),
       λ p. c.eq.ensures ∙ true_same the_type _ _ (same_type _ _ (own ∙ p)),
     )

@@ -45,32 +45,29 @@ pub value_at-bounds-s-at : goal.value_at-bounds-s-at
 value_at-bounds-s-at t c = expr_there _ _ _ c.requires
 
 pub value_at-overflow_add-at : goal.value_at-overflow_add-at
-value_at-overflow_add-at t c = omega (arith, literal_there (expr_opened _ _ _ _ c.requires c.form_of.ensures) c.requires _ (literal_meant (c.in-OfExpr.is ∙ ap OfExpr c.in-Literal.is)))
+value_at-overflow_add-at t c = omega (arith, literal_there (expr_opened _ _ _ _ c.requires c.form_of.ensures.form) c.requires _ (literal_meant (c.in-OfExpr.is ∙ ap OfExpr c.in-Literal.is)))
 
 pub value_at-number_at-requires : goal.value_at-number_at-requires
-value_at-number_at-requires t c = (rw c.from-width.ensures (literal_there (expr_opened _ _ _ _ c.requires c.form_of.ensures) c.requires _ (literal_meant (c.in-OfExpr.is ∙ ap OfExpr c.in-Literal.is))), rw c.from-width.ensures (literal_most (expr_opened _ _ _ _ c.requires c.form_of.ensures) c.requires _ (literal_meant (c.in-OfExpr.is ∙ ap OfExpr c.in-Literal.is)) (omega (arith, c.type_inv.s c.args.at))))
+value_at-number_at-requires t c = (rw c.from-width.ensures (literal_there (expr_opened _ _ _ _ c.requires c.form_of.ensures.form) c.requires _ (literal_meant (c.in-OfExpr.is ∙ ap OfExpr c.in-Literal.is))), rw c.from-width.ensures (literal_most (expr_opened _ _ _ _ c.requires c.form_of.ensures.form) c.requires _ (literal_meant (c.in-OfExpr.is ∙ ap OfExpr c.in-Literal.is)) (omega (arith, c.type_inv.s c.args.at))))
 
 pub value_at-returns-in_err-value-in-Literal : goal.value_at-returns-in_err-value-in-Literal
 unfolding value_meant
-value_at-returns-in_err-value-in-Literal t c = refused _ _ _ _ _ c.from_residual.ensures.1 (c.in_err-value-in-Literal.ensures ∙ literal_valued (expr_opened _ _ _ _ c.requires c.form_of.ensures) c.requires _ (literal_meant (c.in-OfExpr.is ∙ ap OfExpr c.in-Literal.is)) _ (c.number_at.ensures ∙ rw c.from-width.ensures) _ (c.in-Some.ensures _))
+value_at-returns-in_err-value-in-Literal t c = refused _ _ _ _ _ c.from_residual.ensures.1 (literal_valued (expr_opened _ _ _ _ c.requires c.form_of.ensures.form) c.requires _ (literal_meant (c.in-OfExpr.is ∙ ap OfExpr c.in-Literal.is)) _ (c.number_at.ensures ∙ rw c.from-width.ensures) _ c.in_err-value-in-Literal.ensures)
 
 pub value_at-overflow_add-result : goal.value_at-overflow_add-result
-value_at-overflow_add-result t c = omega (arith, literal_there (expr_opened _ _ _ _ c.requires c.form_of.ensures) c.requires _ (literal_meant (c.in-OfExpr.is ∙ ap OfExpr c.in-Literal.is)))
+value_at-overflow_add-result t c = omega (arith, literal_there (expr_opened _ _ _ _ c.requires c.form_of.ensures.form) c.requires _ (literal_meant (c.in-OfExpr.is ∙ ap OfExpr c.in-Literal.is)))
 
 pub value_at-overflow_add-result-in-Literal : goal.value_at-overflow_add-result-in-Literal
-value_at-overflow_add-result-in-Literal t c = omega (arith, c.from-width.ensures, literal_there (expr_opened _ _ _ _ c.requires c.form_of.ensures) c.requires _ (literal_meant (c.in-OfExpr.is ∙ ap OfExpr c.in-Literal.is)))
+value_at-overflow_add-result-in-Literal t c = omega (arith, c.from-width.ensures, literal_there (expr_opened _ _ _ _ c.requires c.form_of.ensures.form) c.requires _ (literal_meant (c.in-OfExpr.is ∙ ap OfExpr c.in-Literal.is)))
 
 pub value_at-binary_at-requires : goal.value_at-binary_at-requires
-value_at-binary_at-requires t c = (omega (arith, c.decreases), (c.requires, sym c.form_of.ensures ∙ binary_meant (c.in-OfExpr.is ∙ ap OfExpr c.in-Binary.is)))
+value_at-binary_at-requires t c = (omega (arith, c.decreases), (c.requires, sym c.form_of.ensures.form ∙ binary_meant (c.in-OfExpr.is ∙ ap OfExpr c.in-Binary.is)))
 
 pub value_at-returns-in_ok-value-in-Literal : goal.value_at-returns-in_ok-value-in-Literal
-value_at-returns-in_ok-value-in-Literal t c = (returned _ _ (record { sfits = omega arith }) (c.in_ok-value-in-Literal.ensures ∙ literal_valued (expr_opened _ _ _ _ c.requires c.form_of.ensures) c.requires _ (literal_meant (c.in-OfExpr.is ∙ ap OfExpr c.in-Literal.is)) _ (c.number_at.ensures ∙ rw c.from-width.ensures) _ (c.in-Some.ensures _)), rw c.from-width.ensures (literal_end (expr_opened _ _ _ _ c.requires c.form_of.ensures) c.requires _ (literal_meant (c.in-OfExpr.is ∙ ap OfExpr c.in-Literal.is))))
-
-pub value_at-returns-in_default-literal_of : goal.value_at-returns-in_default-literal_of
-value_at-returns-in_default-literal_of t c = literal_valued (expr_opened _ _ _ _ c.requires c.form_of.ensures) c.requires _ (literal_meant (c.in-OfExpr.is ∙ ap OfExpr c.in-Literal.is)) _ refl _ (c.in_default-literal_of.ensures _)
+value_at-returns-in_ok-value-in-Literal t c = (returned _ _ (record { sfits = omega arith }) (literal_valued (expr_opened _ _ _ _ c.requires c.form_of.ensures.form) c.requires _ (literal_meant (c.in-OfExpr.is ∙ ap OfExpr c.in-Literal.is)) _ (c.number_at.ensures ∙ rw c.from-width.ensures) _ c.in_ok-value-in-Literal.ensures), rw c.from-width.ensures (literal_end (expr_opened _ _ _ _ c.requires c.form_of.ensures.form) c.requires _ (literal_meant (c.in-OfExpr.is ∙ ap OfExpr c.in-Literal.is))))
 
 pub value_at-returns-in_default-form : goal.value_at-returns-in_default-form
-value_at-returns-in_default-form t c = other_refused c.requires _ _ c.in-OfExpr.is (expr_opened _ _ _ _ c.requires c.form_of.ensures) c.in_default-form.not-Literal c.in_default-form.not-Binary
+value_at-returns-in_default-form t c = other_refused c.requires _ _ c.in-OfExpr.is (expr_opened _ _ _ _ c.requires c.form_of.ensures.form) c.in_default-form.not-Literal c.in_default-form.not-Binary
 
 pub value_at-returns-in_default : goal.value_at-returns-in_default
-value_at-returns-in_default t c = absurd (tree_other (expr_opened _ _ _ _ c.requires c.form_of.ensures) c.requires (not_expr _ c.in_default.not-OfExpr))
+value_at-returns-in_default t c = absurd (tree_other (expr_opened _ _ _ _ c.requires c.form_of.ensures.form) c.requires (not_expr _ c.in_default.not-OfExpr))

@@ -111,70 +111,70 @@ pub measure_type-bounds-definitions-at : goal.measure_type-bounds-definitions-at
 measure_type-bounds-definitions-at t c = type_there _ _ _ c.requires
 
 pub measure_type-unreachable-requires : goal.measure_type-unreachable-requires
-measure_type-unreachable-requires t c = no_other (type_opened _ _ _ _ c.requires c.form_of.ensures) c.requires (not_type _ c.in_default.not-OfType)
+measure_type-unreachable-requires t c = no_other (type_opened _ _ _ _ c.requires c.form_of.ensures.form) c.requires (not_type _ c.in_default.not-OfType)
 
 pub measure_type-overflow_add-body : goal.measure_type-overflow_add-body
 measure_type-overflow_add-body t c = omega (arith, type_there _ _ _ c.requires)
 
 pub measure_type-primitive-requires : goal.measure_type-primitive-requires
-measure_type-primitive-requires t c = rw c.get_primitive_size.ensures (primitive_size _ (omega arith) (sym c.form_of.ensures ∙ primitive_meant (c.in-OfType.is ∙ ap OfType c.in-Primitive.is)))
+measure_type-primitive-requires t c = rw c.get_primitive_size.ensures (primitive_size _ (omega arith) (sym c.form_of.ensures.form ∙ primitive_meant (c.in-OfType.is ∙ ap OfType c.in-Primitive.is)))
 
 pub measure_type-measure_name-requires : goal.measure_type-measure_name-requires
-measure_type-measure_name-requires t c = type_ref_there (type_opened _ _ _ _ c.requires c.form_of.ensures) c.requires (type_ref_meant (c.in-OfType.is ∙ ap OfType c.in-TypeRef.is))
+measure_type-measure_name-requires t c = type_ref_there (type_opened _ _ _ _ c.requires c.form_of.ensures.form) c.requires (type_ref_meant (c.in-OfType.is ∙ ap OfType c.in-TypeRef.is))
 
 pub measure_type-overflow_add-result : goal.measure_type-overflow_add-result
-measure_type-overflow_add-result t c = omega (arith, type_ref_there (type_opened _ _ _ _ c.requires c.form_of.ensures) c.requires (type_ref_meant (c.in-OfType.is ∙ ap OfType c.in-TypeRef.is)))
+measure_type-overflow_add-result t c = omega (arith, type_ref_there (type_opened _ _ _ _ c.requires c.form_of.ensures.form) c.requires (type_ref_meant (c.in-OfType.is ∙ ap OfType c.in-TypeRef.is)))
 
 pub measure_type-overflow_sub-depth : goal.measure_type-overflow_sub-depth
 measure_type-overflow_sub-depth t c = omega (arith, type_deep _ _ _ c.requires)
 
 pub measure_type-measure_group-requires : goal.measure_type-measure_group-requires
-measure_type-measure_group-requires t c = (omega (arith, type_deep _ _ _ c.requires, c.decreases), (struct_reads (type_opened _ _ _ _ c.requires c.form_of.ensures) c.requires (struct_meant (c.in-OfType.is ∙ ap OfType c.in-Struct.is))))
+measure_type-measure_group-requires t c = (omega (arith, type_deep _ _ _ c.requires, c.decreases), (struct_reads (type_opened _ _ _ _ c.requires c.form_of.ensures.form) c.requires (struct_meant (c.in-OfType.is ∙ ap OfType c.in-Struct.is))))
 
 pub measure_type-overflow_sub-depth-in-Union : goal.measure_type-overflow_sub-depth-in-Union
 measure_type-overflow_sub-depth-in-Union t c = omega (arith, type_deep _ _ _ c.requires)
 
 pub measure_type-measure_group-requires-in-Union : goal.measure_type-measure_group-requires-in-Union
-measure_type-measure_group-requires-in-Union t c = (omega (arith, type_deep _ _ _ c.requires, c.decreases), (union_reads (type_opened _ _ _ _ c.requires c.form_of.ensures) c.requires (union_meant (c.in-OfType.is ∙ ap OfType c.in-Union.is))))
+measure_type-measure_group-requires-in-Union t c = (omega (arith, type_deep _ _ _ c.requires, c.decreases), (union_reads (type_opened _ _ _ _ c.requires c.form_of.ensures.form) c.requires (union_meant (c.in-OfType.is ∙ ap OfType c.in-Union.is))))
 
 pub measure_type-overflow_sub-depth-in-Enum : goal.measure_type-overflow_sub-depth-in-Enum
 measure_type-overflow_sub-depth-in-Enum t c = omega (arith, type_deep _ _ _ c.requires)
 
 pub measure_type-measure_enum-requires : goal.measure_type-measure_enum-requires
-measure_type-measure_enum-requires t c = (omega (arith, type_deep _ _ _ c.requires, c.decreases), (enum_reads (type_opened _ _ _ _ c.requires c.form_of.ensures) c.requires (enum_meant (c.in-OfType.is ∙ ap OfType c.in-Enum.is))))
+measure_type-measure_enum-requires t c = (omega (arith, type_deep _ _ _ c.requires, c.decreases), (enum_reads (type_opened _ _ _ _ c.requires c.form_of.ensures.form) c.requires (enum_meant (c.in-OfType.is ∙ ap OfType c.in-Enum.is))))
 
 pub measure_type-overflow_sub-depth-in-Array : goal.measure_type-overflow_sub-depth-in-Array
 measure_type-overflow_sub-depth-in-Array t c = omega (arith, type_deep _ _ _ c.requires)
 
 pub measure_type-measure_array-requires : goal.measure_type-measure_array-requires
-measure_type-measure_array-requires t c = (omega (arith, type_deep _ _ _ c.requires, c.decreases), (array_reads (type_opened _ _ _ _ c.requires c.form_of.ensures) c.requires (array_meant (c.in-OfType.is ∙ ap OfType c.in-Array.is))))
+measure_type-measure_array-requires t c = (omega (arith, type_deep _ _ _ c.requires, c.decreases), (array_reads (type_opened _ _ _ _ c.requires c.form_of.ensures.form) c.requires (array_meant (c.in-OfType.is ∙ ap OfType c.in-Array.is))))
 
 pub measure_type-overflow_sub-depth-in-SizeUnion : goal.measure_type-overflow_sub-depth-in-SizeUnion
 measure_type-overflow_sub-depth-in-SizeUnion t c = omega (arith, type_deep _ _ _ c.requires)
 
 pub measure_type-measure_group-requires-in-SizeUnion : goal.measure_type-measure_group-requires-in-SizeUnion
-measure_type-measure_group-requires-in-SizeUnion t c = (omega (arith, type_deep _ _ _ c.requires, c.decreases), (size_union_reads (type_opened _ _ _ _ c.requires c.form_of.ensures) c.requires (size_union_meant (c.in-OfType.is ∙ ap OfType c.in-SizeUnion.is))))
+measure_type-measure_group-requires-in-SizeUnion t c = (omega (arith, type_deep _ _ _ c.requires, c.decreases), (size_union_reads (type_opened _ _ _ _ c.requires c.form_of.ensures.form) c.requires (size_union_meant (c.in-OfType.is ∙ ap OfType c.in-SizeUnion.is))))
 
 pub measure_type-returns-in-Primitive : goal.measure_type-returns-in-Primitive
-measure_type-returns-in-Primitive t c = record { is = primitive_sized c.primitive.result c.primitive.ensures.0 c.primitive.ensures.1 ∙ rw c.get_primitive_size.ensures (primitive_is _ (type_opened _ _ _ _ c.requires c.form_of.ensures) c.requires _ (primitive_meant (c.in-OfType.is ∙ ap OfType c.in-Primitive.is))); ended = primitive_ended _ (type_opened _ _ _ _ c.requires c.form_of.ensures) c.requires (primitive_meant (c.in-OfType.is ∙ ap OfType c.in-Primitive.is)) }
+measure_type-returns-in-Primitive t c = record { is = primitive_sized c.primitive.result c.primitive.ensures.0 c.primitive.ensures.1 ∙ rw c.get_primitive_size.ensures (primitive_is _ (type_opened _ _ _ _ c.requires c.form_of.ensures.form) c.requires _ (primitive_meant (c.in-OfType.is ∙ ap OfType c.in-Primitive.is))); ended = primitive_ended _ (type_opened _ _ _ _ c.requires c.form_of.ensures.form) c.requires (primitive_meant (c.in-OfType.is ∙ ap OfType c.in-Primitive.is)) }
 
 pub measure_type-returns-in-TypeRef : goal.measure_type-returns-in-TypeRef
-measure_type-returns-in-TypeRef t c = record { is = c.measure_name.ensures ∙ type_ref_is _ (type_opened _ _ _ _ c.requires c.form_of.ensures) c.requires _ (type_ref_meant (c.in-OfType.is ∙ ap OfType c.in-TypeRef.is)); ended = type_ref_ended _ (type_opened _ _ _ _ c.requires c.form_of.ensures) c.requires (type_ref_meant (c.in-OfType.is ∙ ap OfType c.in-TypeRef.is)) }
+measure_type-returns-in-TypeRef t c = record { is = c.measure_name.ensures ∙ type_ref_is _ (type_opened _ _ _ _ c.requires c.form_of.ensures.form) c.requires _ (type_ref_meant (c.in-OfType.is ∙ ap OfType c.in-TypeRef.is)); ended = type_ref_ended _ (type_opened _ _ _ _ c.requires c.form_of.ensures.form) c.requires (type_ref_meant (c.in-OfType.is ∙ ap OfType c.in-TypeRef.is)) }
 
 pub measure_type-returns-in-Struct : goal.measure_type-returns-in-Struct
-measure_type-returns-in-Struct t c = is_same (struct_is _ (type_opened _ _ _ _ c.requires c.form_of.ensures) c.requires _ (struct_meant (c.in-OfType.is ∙ ap OfType c.in-Struct.is))) (sym (struct_ends (type_opened _ _ _ _ c.requires c.form_of.ensures) (struct_meant (c.in-OfType.is ∙ ap OfType c.in-Struct.is)))) c.measure_group.ensures
+measure_type-returns-in-Struct t c = is_same (struct_is _ (type_opened _ _ _ _ c.requires c.form_of.ensures.form) c.requires _ (struct_meant (c.in-OfType.is ∙ ap OfType c.in-Struct.is))) (sym (struct_ends (type_opened _ _ _ _ c.requires c.form_of.ensures.form) (struct_meant (c.in-OfType.is ∙ ap OfType c.in-Struct.is)))) c.measure_group.ensures
 
 pub measure_type-returns-in-Union : goal.measure_type-returns-in-Union
-measure_type-returns-in-Union t c = is_same (union_is _ (type_opened _ _ _ _ c.requires c.form_of.ensures) c.requires _ (union_meant (c.in-OfType.is ∙ ap OfType c.in-Union.is))) (sym (union_ends (type_opened _ _ _ _ c.requires c.form_of.ensures) (union_meant (c.in-OfType.is ∙ ap OfType c.in-Union.is)))) c.measure_group-in-Union.ensures
+measure_type-returns-in-Union t c = is_same (union_is _ (type_opened _ _ _ _ c.requires c.form_of.ensures.form) c.requires _ (union_meant (c.in-OfType.is ∙ ap OfType c.in-Union.is))) (sym (union_ends (type_opened _ _ _ _ c.requires c.form_of.ensures.form) (union_meant (c.in-OfType.is ∙ ap OfType c.in-Union.is)))) c.measure_group-in-Union.ensures
 
 pub measure_type-returns-in-Enum : goal.measure_type-returns-in-Enum
-measure_type-returns-in-Enum t c = is_same (enum_is _ (type_opened _ _ _ _ c.requires c.form_of.ensures) c.requires _ (enum_meant (c.in-OfType.is ∙ ap OfType c.in-Enum.is))) (sym (enum_ends (type_opened _ _ _ _ c.requires c.form_of.ensures) (enum_meant (c.in-OfType.is ∙ ap OfType c.in-Enum.is)))) c.measure_enum.ensures
+measure_type-returns-in-Enum t c = is_same (enum_is _ (type_opened _ _ _ _ c.requires c.form_of.ensures.form) c.requires _ (enum_meant (c.in-OfType.is ∙ ap OfType c.in-Enum.is))) (sym (enum_ends (type_opened _ _ _ _ c.requires c.form_of.ensures.form) (enum_meant (c.in-OfType.is ∙ ap OfType c.in-Enum.is)))) c.measure_enum.ensures
 
 pub measure_type-returns-in-Array : goal.measure_type-returns-in-Array
-measure_type-returns-in-Array t c = is_same (array_is _ (type_opened _ _ _ _ c.requires c.form_of.ensures) c.requires _ (array_meant (c.in-OfType.is ∙ ap OfType c.in-Array.is))) (sym (array_ends (type_opened _ _ _ _ c.requires c.form_of.ensures) (array_meant (c.in-OfType.is ∙ ap OfType c.in-Array.is)))) c.measure_array.ensures
+measure_type-returns-in-Array t c = is_same (array_is _ (type_opened _ _ _ _ c.requires c.form_of.ensures.form) c.requires _ (array_meant (c.in-OfType.is ∙ ap OfType c.in-Array.is))) (sym (array_ends (type_opened _ _ _ _ c.requires c.form_of.ensures.form) (array_meant (c.in-OfType.is ∙ ap OfType c.in-Array.is)))) c.measure_array.ensures
 
 pub measure_type-returns-in-SizeUnion : goal.measure_type-returns-in-SizeUnion
-measure_type-returns-in-SizeUnion t c = is_same (size_union_is _ (type_opened _ _ _ _ c.requires c.form_of.ensures) c.requires _ (size_union_meant (c.in-OfType.is ∙ ap OfType c.in-SizeUnion.is))) (sym (size_union_ends (type_opened _ _ _ _ c.requires c.form_of.ensures) (size_union_meant (c.in-OfType.is ∙ ap OfType c.in-SizeUnion.is)))) c.measure_group-in-SizeUnion.ensures
+measure_type-returns-in-SizeUnion t c = is_same (size_union_is _ (type_opened _ _ _ _ c.requires c.form_of.ensures.form) c.requires _ (size_union_meant (c.in-OfType.is ∙ ap OfType c.in-SizeUnion.is))) (sym (size_union_ends (type_opened _ _ _ _ c.requires c.form_of.ensures.form) (size_union_meant (c.in-OfType.is ∙ ap OfType c.in-SizeUnion.is)))) c.measure_group-in-SizeUnion.ensures
 
 pub measure_type-get_primitive_size-requires : goal.measure_type-get_primitive_size-requires
-measure_type-get_primitive_size-requires t c = sym c.form_of.ensures ∙ primitive_meant (c.in-OfType.is ∙ ap OfType c.in-Primitive.is)
+measure_type-get_primitive_size-requires t c = sym c.form_of.ensures.form ∙ primitive_meant (c.in-OfType.is ∙ ap OfType c.in-Primitive.is)

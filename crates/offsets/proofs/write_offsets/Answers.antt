@@ -1,6 +1,7 @@
 -- `offsets::write_offsets` meets its contract.
 use native.Mathlib.Omega.{arith}
 use mathlib.Core.Path.{refl}
+use Rattle.extents.specs.Meant.{extent_meant, members_meant}
 use Rattle.fixed.proofs.WalkLaws.{member_read}
 use Rattle.offsets.proofs.PlacingLaws.{writing_start, writing_end, writing_most, writing_next}
 use Rattle.offsets.proofs.write_offsets.Goals as goal
@@ -15,6 +16,7 @@ pub overflow_cast-offsets : goal.overflow_cast-offsets
 overflow_cast-offsets c = omega (arith, writing_most c.loop-i.invariant c.loop-i-test.true c.measure_member-m.ensures c.field_offset.ensures)
 
 pub loop-i-preserved : goal.loop-i-preserved
+unfolding members_meant extent_meant
 loop-i-preserved c = writing_next c.loop-i.invariant c.loop-i-test.true c.measure_member-m.ensures c.field_offset.ensures c.with_field-so.ensures
 
 pub returns : goal.returns

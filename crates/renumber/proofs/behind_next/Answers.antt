@@ -22,5 +22,5 @@ pub returns : goal.returns
 returns c =
     let a = c.args in
     let at = c in
-    c.parts_of.ensures ∙ ap form_parts c.form_of.ensures
+    c.parts_of.ensures ∙ ap form_parts c.form_of.ensures.form
     ∙ behind_all a.left.0 a.left.1 a.left.2 a.kind at.if-left-gt0.false at.if-left-gt0-2.false at.if-left-gt0-3.false
