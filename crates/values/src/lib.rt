@@ -39,7 +39,7 @@ pub enum Literal {
     Signed8,
 }
 
-// The literal of a kind, where it is one.
+// How a literal of this kind is read: up to kind 4 as unsigned, above 8 not at all.
 pub fn literal_of(kind: u8) -> Option<Literal>
     ensures { IsLiteralOf kind result }
 {
@@ -66,7 +66,7 @@ pub fn read_literal(literal: Literal, n: u64) -> Result<i64, Refusal>
     }
 }
 
-// The value of a literal of this kind: of any byte, since a kind that is no literal's is refused.
+// The value of a literal of this kind, of any byte: a kind that is not read is refused.
 pub fn literal_value(kind: u8, n: u64) -> Result<i64, Refusal>
     ensures { value_meant result ≡ literal_value kind n }
 {
