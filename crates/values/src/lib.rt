@@ -66,7 +66,7 @@ pub fn read_literal(literal: Literal, n: u64) -> Result<i64, Refusal>
     }
 }
 
-// The value of a literal of this kind, of any byte: a kind that is not read is refused.
+// The value of a literal of this kind, which may be any byte: one that is not read is refused.
 pub fn literal_value(kind: u8, n: u64) -> Result<i64, Refusal>
     ensures { value_meant result ≡ literal_value kind n }
 {
